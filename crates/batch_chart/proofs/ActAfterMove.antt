@@ -4,7 +4,7 @@ use Rattle.std.specs.Prelude.{slice_set}
 use Rattle.batch_matrix.specs.{declared.state.State.State, declared.state.State.TheVariants.Running, declared.command.Command.Command, Matrix.target}
 use Rattle.batch_recipe.{specs.Conditions.ValueList, specs.Tree.Step, specs.Tree.Task, specs.Tree.runs, specs.Tree.follows, specs.Tree.Tree, specs.Tree.act, specs.declared.entry.Entry.Entry, proofs.NodeSubtrees.some_count, specs.declared.recipe.Recipe.Recipe}
 use Rattle.batch_model.specs.{Plant.Batch, Moves.freed, Moves.sent, Moves.released, Moves.ended, Moves.asked, Moves.granted, Events.phase_after, Rest.Rest, Rest.ready, Rest.open_act, Rest.live, Rest.freeing, Rest.changed_at, Rest.is_done, Settled.IsAdvanced}
-use Rattle.batch_matrix.specs.declared.report.PhaseEnd.TheVariants as phase
+use Rattle.batch_matrix.specs.declared.report.ReportOutcome.TheVariants as phase
 use Rattle.batch_step_laws.proofs.{RestsAfterChange.RemainsAs, RestsAfterChange.sent-remains, RestsAfterChange.released-remains, RestsAfterChange.ended-remains, RestsAfterChange.begun-remains, RestsAfterChange.now-remains, AdvancedRests.reach-advanced}
 use Rattle.batch_chart.{specs.declared.node.Kind.Kind, specs.declared.node.Kind.TheVariants.Act, specs.declared.stage.Stage.Stage, specs.declared.stage.Stage.TheVariants.Ready, specs.declared.stage.Stage.TheVariants.Asking, specs.declared.stage.Stage.TheVariants.Open, specs.declared.stage.Stage.TheVariants.Live, specs.declared.stage.Stage.TheVariants.Freeing, specs.declared.chart_move.Move.Move, specs.Stages.stage_at, specs.Stages.is_finished, specs.Meaning.meaning, specs.Meaning.act_as, specs.Meaning.AgreeOutside, specs.Outlined.end_at, specs.Outlined.kind_at, specs.Outlined.is_act_kind, specs.Outlined.Stands, specs.Reaching.IsReached, specs.Freeing.IsFreed, specs.Freeing.HasFinished, specs.NodesOf.place_at, specs.Seen.machine_move, specs.Running.IsLaid, specs.Running.IsAlive, specs.Running.SomeLives, specs.Running.CanRelease, specs.Running.HasMore, specs.Running.Allows, specs.Running.HasMade, specs.Running.rest_after, specs.Running.IsChanged, specs.Running.IsChangedOnly, specs.Running.IsNodeLive, specs.Running.IsNodeAsking, proofs.TreePositions.stood, proofs.TreePositions.ActAt, proofs.TreePositions.act_at, proofs.TreePositions.act-at, proofs.TreePositions.some-stands, proofs.StageAgreement.stage-set_same, proofs.StageAgreement.stage-set_other, proofs.PathToRoot.as-many, proofs.PathToRoot.set-out, proofs.ChartChange.Fits, proofs.ChartChange.more-act, proofs.ChartChange.IsStep, proofs.ChartChange.IsCalm, proofs.ChartChange.IsGood, proofs.ChartChange.freed-step, proofs.ChartChange.freed-calm, proofs.ChartChange.set-step, proofs.ChartChange.set-calm, proofs.ChartChange.set-told, proofs.ChartChange.stepped, proofs.ChartChange.calmed, proofs.ChartChange.went, proofs.FinishedStages.told-finished, proofs.FinishedStages.told-part, specs.Told.AreTold, specs.ByValues.bare, specs.ByValues.begun_by, specs.ByValues.advance_by}
 use Rattle.batch_chart.specs.declared.node.Kind.TheVariants as kind

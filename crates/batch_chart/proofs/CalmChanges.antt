@@ -1,11 +1,11 @@
 -- A change by which nothing is finished leaves nothing to go on with.
 use Rattle.std.proofs.Common.{◌≡◌, inl, inr, ℕ, zero, suc, List, Bool, true, false, ◌&&◌, refl, ◌∙◌, ap, ap₂}
-use Rattle.batch_recipe.specs.{Conditions.holds, declared.condition.Cond.Cond, Tree.Place, Tree.Tree}
+use Rattle.batch_recipe.specs.{Conditions.holds, declared.condition.Condition.Condition, Tree.Place, Tree.Tree}
 use Rattle.batch_model.{specs.Lists.Has, specs.Rest.same_place, specs.Rest.Rest, specs.Rest.Moment, specs.Rest.ready, specs.Rest.asking, specs.Rest.open_act, specs.Rest.live, specs.Rest.freeing, specs.Rest.in_seq, specs.Rest.in_par, specs.Rest.in_loop, specs.Rest.done, specs.Rest.Rests, specs.Rest.no_rests, specs.Rest.rest, specs.Rest.acts, specs.Rest.acts_of_each, specs.Rest.changed_at, specs.Rest.changed_in_each, specs.Rest.is_done, specs.Rest.all_done, specs.Rest.joined, specs.Rest.continued, specs.Rest.turned, specs.Rest.turning, specs.Rest.reach, specs.Rest.reach_first, specs.Rest.advance, specs.Rest.advance_each, specs.Rest.place_of, specs.Settled.IsAdvanced, specs.Settled.AreAdvanced, proofs.Members.Has-left, proofs.Members.Has-right}
 use Rattle.batch_step_laws.proofs.WorkAfterChange.{to_same_place}
 use Rattle.batch_chart.proofs.KnownTests.{chosen-false}
 
-pub turned-still : (mo : Moment) (k : ℕ) (p : Cond) (body : Tree) (b : Rest) → is_done b ≡ false → turned mo k p body b ≡ in_loop k p body b
+pub turned-still : (mo : Moment) (k : ℕ) (p : Condition) (body : Tree) (b : Rest) → is_done b ≡ false → turned mo k p body b ≡ in_loop k p body b
 turned-still mo zero p body b e = chosen-false (is_done b) done (in_loop 0 p body b) e
 turned-still mo (suc k) p body b e = chosen-false (is_done b) (elim (holds mo.values p) as (λ _. Rest) [ true ↦ done | false ↦ turning k p body (reach mo body) ]) (in_loop (suc k) p body b) e
 

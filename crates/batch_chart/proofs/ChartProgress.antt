@@ -3,7 +3,7 @@ use Rattle.std.proofs.Common.{◌≡◌, ◌⊎◌, inl, inr, ◌<◌, ℕ, List
 use Rattle.std.specs.{Prelude.not, VecDeque.deque_capacity}
 use Rattle.batch_record_laws.proofs.{Entries.Has-filter, HoldingsInAdvance.at_moment, HoldingsInAdvance.Nowhere, HoldingsInAdvance.raised, HoldingsInAdvance.IsFresh, HoldingsInAdvance.moved-raised, HoldingsInAdvance.not_reached, HoldingsInAdvance.reached-at, HoldingsInAdvance.fresh-where-none, EffectsOnActs.stays-steady, EffectsOnActs.stays-tidy, EffectsOnActs.granted-stays, EffectsOnActs.phase_after-stays}
 use Rattle.batch_chart.{specs.Noting.AreNoted, specs.ByValues.advance_by, specs.Charts.Awaits, specs.Charts.IsChartOf, specs.Charts.IsRunningOf, specs.Charts.RunsAs, specs.Early.AreHeld, specs.Early.held_after, specs.Early.in_advance, specs.Early.is_early, specs.Early.is_ready, specs.Early.still_held, specs.Early.IsTakenBy, specs.Early.IsMovedOn, specs.Early.IsReportedOn, specs.declared.passed.Passed.Passed, specs.Meaning.meaning, specs.Neat.AreNeat, specs.NodesOf.most_by, specs.NodesOf.need_at, specs.NodesOf.own_units, specs.NodesOf.place_at, specs.Stages.stage_at, specs.Running.Allows, specs.Running.IsAlive, specs.Running.IsLiveIn, specs.Running.rest_after, specs.Running.IsChangedOnly, specs.Seen.machine_move, specs.Upkeep.IsKeptUp, specs.declared.chart_move.Move.Move, specs.declared.running.Running.Running, specs.declared.stage.Stage.Stage, proofs.ChartAfterMove.held-kept, proofs.ChartAfterMove.held-new, proofs.ChartAfterMove.passes-within, proofs.ActPlaces.changed-stands, proofs.RestAfterMove.AreWaiting, proofs.RestAfterMove.IsActMove, proofs.RestAfterMove.act-tidy, proofs.RestAfterMove.after-raised, proofs.RestAfterMove.among, proofs.RestAfterMove.filter-all, proofs.RestAfterMove.now-raised, proofs.RestAfterMove.now-waiting, proofs.RestAfterMove.still-early, proofs.RestAfterMove.early-told, proofs.RestAfterMove.still-held, proofs.RestAfterMove.any-has, proofs.RestAfterMove.raised-none, proofs.RestAfterMove.waiting-nowhere, proofs.RunningCharts.runs-by, proofs.ActSigns.noted}
-use Rattle.batch_matrix.specs.{declared.report.PhaseEnd.PhaseEnd, declared.report.Report.Report, declared.state.State.State, Matrix.after_report}
+use Rattle.batch_matrix.specs.{declared.report.ReportOutcome.ReportOutcome, declared.report.Report.Report, declared.state.State.State, Matrix.after_report}
 use Rattle.batch_recipe.specs.{Conditions.ValueList, Nodes.node_count, Tree.Tree, declared.entry.Entry.Entry, declared.recipe.Recipe.Recipe}
 use Rattle.batch_model.specs.{Events.phase_after, Lists.Has, Moves.act_after, Moves.batch_after, Moves.granted, Moves.passing, Moves.place_of_move, Plant.Batch, Plant.InAdvance, Plant.is_act_reached, Plant.in_act, Plant.moment_of, Plant.with_rest, Rest.Rest, Rest.acts, Rest.advance, Rest.changed_at, Rest.place_of}
 use Rattle.batch_model.specs.Moves as machine
@@ -158,7 +158,7 @@ module _ (chart : Recipe) (t : Tree) (laid : IsChartOf t chart) where
                 }
 
   module _ (old new : Running) (ys : List Stage) (is : new.stages.items ≡ ys) (vs : ValueList) (k : ℕ) (word : Report) (h : IsReportedOn ns chart vs k word old.held.items old.stages.items ys old.signs new.signs)
-      (left : new.held.items ≡ still_held ys old.held.items) (capacity : deque_capacity new.held ≡ deque_capacity old.held) (needs : new.needs ≡ old.needs) (x : State) (e : PhaseEnd) (live : IsLiveIn ns old.stages.items k x) (accepts : after_report x word ≡ Some e) (ran : IsRunningOf t old) where
+      (left : new.held.items ≡ still_held ys old.held.items) (capacity : deque_capacity new.held ≡ deque_capacity old.held) (needs : new.needs ≡ old.needs) (x : State) (e : ReportOutcome) (live : IsLiveIn ns old.stages.items k x) (accepts : after_report x word ≡ Some e) (ran : IsRunningOf t old) where
     reported-alive : IsAlive t h.mid
     reported-alive = ((h.reported x e live accepts).means t laid ran.alive).0
 

@@ -3,7 +3,7 @@ use Rattle.std.proofs.Common.{◌≡◌, ◌⊎◌, inl, inr, ◌<◌, ℕ, suc,
 use Rattle.std.{specs.Prelude.slice_index_or, specs.Prelude.Option, specs.Prelude.IfSome, specs.Prelude.not, specs.Prelude.◌||◌, specs.Prelude.map, specs.Prelude.find, specs.Prelude.option_map, specs.Prelude.option_and_then, specs.List.filter_map, specs.List.cons_option, specs.Int.Bits.bit_or, proofs.lemmas.Bool.Decides.nat_tests}
 use Rattle.batch_matrix.specs.{declared.state.State.State, declared.command.Command.Command, Matrix.accepts}
 use Rattle.batch_recipe.specs.{Conditions.Name, Tree.Place, Tree.Step, Tree.Phase, Tree.Task, Tree.runs, Tree.follows, Tree.Tree, declared.entry.Entry.Entry, Nodes.node_count, Procedure.bound_tree, declared.recipe.Recipe.Recipe}
-use Rattle.batch_model.specs.{Lists.Has, Plant.Batch, Plant.held_in, Rest.Rest, Rest.ready, Rest.asking, Rest.open_act, Rest.live, Rest.freeing, Rest.acts, Rest.is_done, Settled.IsAdvanced, Moves.handed_values, Moves.passed_on, Moves.is_running, Moves.is_stopping, Moves.is_stopped, Moves.is_empty, Moves.is_quiet, Moves.when, Moves.entering, Moves.last_held, Moves.giving_back, Moves.reserved_place, Moves.handing_over}
+use Rattle.batch_model.specs.{Lists.Has, Plant.Batch, Plant.held_in, Rest.Rest, Rest.ready, Rest.asking, Rest.open_act, Rest.live, Rest.freeing, Rest.acts, Rest.is_done, Settled.IsAdvanced, Moves.handed_values, Moves.command_passed_on, Moves.is_running, Moves.is_stopping, Moves.is_stopped, Moves.is_empty, Moves.is_quiet, Moves.when, Moves.entering, Moves.last_held, Moves.giving_back, Moves.reserved_place, Moves.handing_over}
 use Rattle.batch_model.specs.Moves as machine
 use Rattle.batch_chart.{specs.declared.node.Kind.Kind, specs.declared.node.Kind.TheVariants.Act, specs.declared.stage.Stage.Stage, specs.declared.stage.Stage.TheVariants.Ready, specs.declared.stage.Stage.TheVariants.Open, specs.declared.stage.Stage.TheVariants.Live, specs.declared.stage.Stage.TheVariants.Freeing, specs.declared.chart_move.Move.Move, specs.Stages.stage_at, specs.Meaning.act_as, specs.Outlined.kind_at, specs.Outlined.is_act_kind, specs.Nexts.first_of, specs.Noting.gives, specs.NodesOf.no_need, specs.NodesOf.no_phase, specs.NodesOf.phase_in, specs.NodesOf.name_in, specs.NodesOf.place_at, specs.NodesOf.step_at, specs.OwnMoves.own_move, specs.OwnMoves.is_kind, specs.Running.CanRelease, specs.Running.HasMore, specs.Running.Allows, specs.Nexts.held_at, specs.Nexts.last_held as last, specs.Nexts.entered, specs.Nexts.releasing, specs.Nexts.handing, specs.Passing.IsBatchOf, specs.Passing.PassesTo, proofs.KnownTests.chosen-true, proofs.KnownTests.chosen-false, specs.declared.sign.TheConstants.FITS, specs.declared.sign.TheConstants.FREES, specs.declared.sign.TheConstants.IS_OVER, specs.declared.sign.TheConstants.LACKS, proofs.ChartChange.Fits, proofs.ChartChange.fits-act, proofs.SignTests.showing, proofs.SignTests.of_states, proofs.SignTests.gives_back, proofs.SignTests.ready-shows, proofs.SignTests.asking-shows, proofs.SignTests.open-shows, proofs.SignTests.live-shows, proofs.SignTests.freeing-shows, proofs.SignTests.low-1, proofs.SignTests.low-8, proofs.SignTests.low-10, proofs.SignTests.open-lacks, proofs.SignTests.open-frees, proofs.SignTests.live-frees, proofs.SignTests.freeing-frees, proofs.MoveKinds.kind_in, proofs.MoveKinds.less, proofs.MoveKinds.and-true, proofs.MoveKinds.empty-done, proofs.MoveKinds.entering-ask, proofs.MoveKinds.entering-start, proofs.MoveKinds.entering-begin, proofs.MoveKinds.giving-some, proofs.MoveKinds.passing-some, proofs.MoveKinds.ready-kind, proofs.MoveKinds.open-kind, proofs.MoveKinds.live_kind, proofs.MoveKinds.live-kind, proofs.MoveKinds.freeing-kind}
 use Rattle.batch_chart.specs.declared.node.Kind.TheVariants as kind
@@ -72,7 +72,7 @@ module _ (b : Batch) where
   -- Which acts make a move of a kind, in each state
 
   -- a live phase is sent a command
-  pub tells-send : (c : Command) (k : ℕ) (a : Rest) → passed_on b.state ≡ Some c → of_states (λ x. accepts x c) k a ≡ kind_in 1 (own_move b a)
+  pub tells-send : (c : Command) (k : ℕ) (a : Rest) → command_passed_on b.state ≡ Some c → of_states (λ x. accepts x c) k a ≡ kind_in 1 (own_move b a)
   tells-send c k (ready s w i) e = sym (ready-kind b 1 s w i ∙ grind arith)
   tells-send c k (open_act s r) e = sym (open-kind b 1 s r ∙ grind arith)
   tells-send c k (live s p x) e = sym (live-kind b 1 s p x ∙ ap (λ o. live_kind 1 o x) e ∙ and-true (accepts x c))
@@ -121,7 +121,7 @@ module _ (b : Batch) where
   tells-asking e k (freeing s i) = freeing-shows 1 (length s.needs) i ∙ grind arith ∙ sym (freeing-kind b 5 s i)
   tells-asking e k a = refl
 
-  pub sends-nothing : passed_on b.state ≡ None → (a : Rest) → kind_in 1 (own_move b a) ≡ false
+  pub sends-nothing : command_passed_on b.state ≡ None → (a : Rest) → kind_in 1 (own_move b a) ≡ false
   sends-nothing e (ready s w i) = ready-kind b 1 s w i ∙ grind arith
   sends-nothing e (open_act s r) = open-kind b 1 s r ∙ grind arith
   sends-nothing e (live s p x) = live-kind b 1 s p x ∙ ap (λ o. live_kind 1 o x) e
@@ -168,7 +168,7 @@ seen_at whole q s w b (move.Start k) = machine.start b.number q (phase_in w) (ha
 seen_at whole q s w b (move.End k) = machine.end b.number q
 seen_at whole q s w b (move.Ask k i) = machine.ask b.number q (slice_index_or s.needs i no_need)
 
-own-live : (b : Batch) (c : Command) (s : Step) (p : Phase) (y : State) → passed_on b.state ≡ Some c → accepts y c ≡ true → own_move b (live s p y) ≡ Some (machine.send b.number s.place p c)
+own-live : (b : Batch) (c : Command) (s : Step) (p : Phase) (y : State) → command_passed_on b.state ≡ Some c → accepts y c ≡ true → own_move b (live s p y) ≡ Some (machine.send b.number s.place p c)
 own-live b c s p y e a =
     ap (λ o. option_and_then (λ command. when (accepts y command) (machine.send b.number s.place p command)) o) e
     ∙ ap (λ t. when t (machine.send b.number s.place p c)) a
@@ -248,7 +248,7 @@ module _ (whole : Tree) (b : Batch) (ns : List Entry) (xs : List Stage) (k : ℕ
   abbrev IsOfKind : ℕ → Step → Task → Rest → Stage → Type 0
   IsOfKind n s w r x = kind_in n (own_move b (act_as s w r x)) ≡ true
 
-  pub suits-send : (c : Command) (s : Step) (w : Task) (r : Rest) (κ : Kind) (x : Stage) → At κ x → Fits κ s w → passed_on b.state ≡ Some c → IsOfKind 1 s w r x → Suits (λ n κ x. move.Send n c) s w r κ x
+  pub suits-send : (c : Command) (s : Step) (w : Task) (r : Rest) (κ : Kind) (x : Stage) → At κ x → Fits κ s w → command_passed_on b.state ≡ Some c → IsOfKind 1 s w r x → Suits (λ n κ x. move.Send n c) s w r κ x
   suits-send c s (runs p) r (kind.Phase j i) (Live y) a h e q =
       (own-live b c s p y e (sym (and-true (accepts y c)) ∙ sym (live-kind b 1 s p y ∙ ap (λ o. live_kind 1 o y) e) ∙ q), (j, i, y, lt, a.0, a.1))
   suits-send c s w r κ (Ready i) a h e q = absurd (let f = sym (ready-kind b 1 s w i) ∙ q in grind arith)

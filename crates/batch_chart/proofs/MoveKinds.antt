@@ -3,7 +3,7 @@ use Rattle.std.proofs.Common.{◌≡◌, ◌<◌, ◌≤◌, ℕ, zero, suc, pre
 use Rattle.std.{specs.Prelude.slice_get, specs.Prelude.slice_index_or, specs.Prelude.Option, specs.Prelude.option_map, specs.Prelude.option_and_then, specs.Prelude.◌||◌, specs.Prelude.◌++◌, proofs.lemmas.Bool.Decides.nat_tests}
 use Rattle.batch_matrix.specs.{declared.state.State.State, declared.command.Command.Command, Matrix.accepts}
 use Rattle.batch_recipe.specs.{Conditions.Name, Tree.Place, Tree.Step, Tree.Phase, Tree.Task, Tree.runs, Tree.follows, Tree.Tree, declared.need.Need.Need}
-use Rattle.batch_model.specs.{Plant.Batch, Plant.held_in, Rest.Rest, Rest.ready, Rest.open_act, Rest.live, Rest.freeing, Rest.in_seq, Rest.in_par, Rest.in_loop, Rest.Rests, Rest.no_rests, Rest.rest, Rest.acts, Rest.acts_of_each, Rest.is_done, Rest.all_done, Settled.IsAdvanced, Settled.AreAdvanced, Moves.Move, Moves.send, Moves.begin, Moves.start, Moves.end, Moves.ask, Moves.release, Moves.pass, Moves.kind_of, Moves.handed_values, Moves.passed_on, Moves.is_running, Moves.is_stopping, Moves.is_stopped, Moves.is_empty, Moves.is_quiet, Moves.when, Moves.beginning, Moves.entering, Moves.last_held, Moves.giving_back, Moves.reserved_place, Moves.handing_over}
+use Rattle.batch_model.specs.{Plant.Batch, Plant.held_in, Rest.Rest, Rest.ready, Rest.open_act, Rest.live, Rest.freeing, Rest.in_seq, Rest.in_par, Rest.in_loop, Rest.Rests, Rest.no_rests, Rest.rest, Rest.acts, Rest.acts_of_each, Rest.is_done, Rest.all_done, Settled.IsAdvanced, Settled.AreAdvanced, Moves.Move, Moves.send, Moves.begin, Moves.start, Moves.end, Moves.ask, Moves.release, Moves.pass, Moves.kind_of, Moves.handed_values, Moves.command_passed_on, Moves.is_running, Moves.is_stopping, Moves.is_stopped, Moves.is_empty, Moves.is_quiet, Moves.when, Moves.beginning, Moves.entering, Moves.last_held, Moves.giving_back, Moves.reserved_place, Moves.handing_over}
 use Rattle.batch_chart.{specs.NodesOf.no_need, specs.Noting.gives, specs.OwnMoves.own_move, specs.OwnMoves.is_kind, proofs.NodesAtNumbers.get-or}
 
 abbrev pub kind_in : ℕ → Option Move → Bool
@@ -147,8 +147,8 @@ module _ (b : Batch) where
           if-kind n (is_stopping b.state && is_quiet b.rest && is_empty (held_in r)) (giving_back b s (length s.needs))
           ∙ ap (λ z. (is_stopping b.state && is_quiet b.rest && is_empty (held_in r)) && z) (giving-kind n s (length s.needs))
 
-  pub live-kind : (n : ℕ) (s : Step) (p : Phase) (x : State) → kind_in n (own_move b (live s p x)) ≡ live_kind n (passed_on b.state) x
-  live-kind n s p x = go (passed_on b.state)
+  pub live-kind : (n : ℕ) (s : Step) (p : Phase) (x : State) → kind_in n (own_move b (live s p x)) ≡ live_kind n (command_passed_on b.state) x
+  live-kind n s p x = go (command_passed_on b.state)
     where
       go : (o : Option Command) → kind_in n (option_and_then (λ command. when (accepts x command) (send b.number s.place p command)) o) ≡ live_kind n o x
       go None = refl

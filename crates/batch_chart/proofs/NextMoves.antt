@@ -5,7 +5,7 @@ use Rattle.batch_matrix.specs.{declared.state.State.State, declared.command.Comm
 use Rattle.batch_matrix.specs.declared.state.State.TheVariants as state
 use Rattle.batch_recipe.specs.Nodes as nodes
 use Rattle.batch_recipe.specs.{Tree.Step, Tree.Task, Tree.Tree, Tree.act, declared.entry.Entry.Entry, declared.recipe.Recipe.Recipe}
-use Rattle.batch_model.specs.{Lists.Has, Plant.Batch, Plant.size_out_of_range, Plant.held_in, Plant.phase_states, Rest.Rest, Rest.live, Rest.is_done, Rest.acts, Settled.IsAdvanced, Moves.passed_on, Moves.is_running, Moves.is_stopping, Moves.is_stopped, Moves.is_empty, Moves.is_quiet, Moves.is_reached, Moves.state_move}
+use Rattle.batch_model.specs.{Lists.Has, Plant.Batch, Plant.size_out_of_range, Plant.held_in, Plant.phase_states, Rest.Rest, Rest.live, Rest.is_done, Rest.acts, Settled.IsAdvanced, Moves.command_passed_on, Moves.is_running, Moves.is_stopping, Moves.is_stopped, Moves.is_empty, Moves.is_quiet, Moves.is_reached, Moves.state_move}
 use Rattle.batch_model.specs.Moves as machine
 use Rattle.batch_chart.{specs.declared.node.Kind.Kind, specs.declared.stage.Stage.Stage, specs.declared.chart_move.Move.Move, specs.Stages.stage_at, specs.Stages.is_begun, specs.Meaning.meaning, specs.Meaning.meaning_below, specs.Meaning.act_as, specs.Outlined.kind_at, specs.Nexts.first_of, specs.Numbered.numbered, specs.NodesOf.node_at, specs.NodesOf.place_at, specs.NodesOf.step_at, specs.NodesOf.task_at, specs.NodesOf.tree_step, specs.NodesOf.tree_task, specs.OwnMoves.own_move, specs.OwnMoves.is_kind, specs.Seen.machine_move, specs.Running.IsLaid, specs.Running.IsAlive, specs.Running.SomeLives, specs.Running.Allows, specs.Nexts.IsAmong, specs.Nexts.IsFoundFirst, specs.Nexts.IsReachedState, specs.Nexts.IsNextOf, specs.Nexts.IsNextState, specs.Nexts.is_phase_kind, specs.Nexts.entered, specs.Nexts.releasing, specs.Nexts.handing, specs.Nexts.last_held, specs.Nexts.held_at, specs.Nexts.made_of, specs.Nexts.IsHanded, specs.Passing.IsBatchOf, specs.Passing.PassesTo, specs.declared.sign.TheConstants.HOLDS, specs.declared.sign.TheConstants.IS_ACT, specs.declared.sign.TheConstants.LACKS, proofs.KnownTests.chosen-true, proofs.KnownTests.chosen-false, proofs.NumberedActs.numbered-acts, proofs.NumberedActs.nothing, proofs.NumberedActs.nothing-any, proofs.NumberedActs.nothing-holds, proofs.ChartChange.Fits, proofs.ChartChange.act-fits, proofs.ChartChange.entry-at, proofs.ChartChange.acts-advanced, proofs.NodesAtNumbers.node-got, proofs.MoveKinds.kind_in, proofs.MoveKinds.empty-done, proofs.FirstMoves.picked, proofs.FirstMoves.picked-none, proofs.FirstMoves.seen_at, proofs.FirstMoves.tells-send, proofs.FirstMoves.tells-asking, proofs.FirstMoves.suits-send, proofs.FirstMoves.suits-releasing, proofs.FirstMoves.suits-handing, proofs.FirstMoves.suits-entering, proofs.FirstMoves.suits-asking, proofs.SignTests.showing, proofs.SignTests.of_states, proofs.SignTests.any_live, proofs.SignTests.live_but}
 use Rattle.batch_chart.specs.declared.chart_move.Move.TheVariants as move
@@ -152,11 +152,11 @@ module _ (ns : List Entry) (doc : Recipe) (xs : List Stage) where
       }
 
   module _ (x : State) (o : Option ℕ) (result : Option Move) (lives : SomeLives ns doc xs) where
-    pub next-sent : (c : Command) → Some c ≡ passed_on x → IsFoundFirst ns doc xs (of_states (λ y. accepts y c)) o → result ≡ option_map (λ k. move.Send k c) o → IsNextOf ns doc xs x 1 result
+    pub next-sent : (c : Command) → Some c ≡ command_passed_on x → IsFoundFirst ns doc xs (of_states (λ y. accepts y c)) o → result ≡ option_map (λ k. move.Send k c) o → IsNextOf ns doc xs x 1 result
     next-sent c e =
         next-of x (of_states (λ y. accepts y c)) 1 (λ k κ y. move.Send k c) o result lives (λ t b k κ y. refl)
-        (λ t b q k a d. tells-send b c k a (ap passed_on q.2 ∙ sym e))
-        (λ t b q k lt s v r own here h z. (let m = suits-send t b ns xs k lt c s v r (kind_at ns k) (stage_at xs k) (refl, refl) h (ap passed_on q.2 ∙ sym e) z in (λ of. m.0, m.1)))
+        (λ t b q k a d. tells-send b c k a (ap command_passed_on q.2 ∙ sym e))
+        (λ t b q k lt s v r own here h z. (let m = suits-send t b ns xs k lt c s v r (kind_at ns k) (stage_at xs k) (refl, refl) h (ap command_passed_on q.2 ∙ sym e) z in (λ of. m.0, m.1)))
 
     pub next-released : (p : ℕ → Rest → Bool) → (is_stopping x || is_stopped x) ≡ true → Tells x p 3 → IsFoundFirst ns doc xs p o → result ≡ made_of releasing ns xs o → IsNextOf ns doc xs x 3 result
     next-released p halts tells =

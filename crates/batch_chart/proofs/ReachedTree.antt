@@ -1,7 +1,7 @@
 -- Reaching a tree: the conditions at each kind of node.
 use Rattle.std.proofs.Common.{◌≡◌, ◌≢◌, ◌⊎◌, inl, inr, ◌<◌, ◌≤◌, ℕ, ◌+◌, ◌-◌, List, length, Bool, true, false, ◌&&◌, arith, refl, sym, ◌∙◌, subst, ap, pred, sub-one}
 use Rattle.std.{proofs.Math.Bool.and_assoc, proofs.Math.Bool.and-true, specs.Prelude.slice_set}
-use Rattle.batch_recipe.specs.{Conditions.ValueList, Conditions.holds, Nodes.node_count, Nodes.count_of_each, Nodes.count_of_choices, Tree.Step, Tree.Task, Tree.runs, Tree.follows, Tree.Tree, Tree.act, Tree.Trees, Tree.tree, Tree.Choices, Tree.choice, declared.condition.Cond.Cond, declared.entry.Entry.Entry, declared.recipe.Recipe.Recipe}
+use Rattle.batch_recipe.specs.{Conditions.ValueList, Conditions.holds, Nodes.node_count, Nodes.count_of_each, Nodes.count_of_choices, Tree.Step, Tree.Task, Tree.runs, Tree.follows, Tree.Tree, Tree.act, Tree.Trees, Tree.tree, Tree.Choices, Tree.choice, declared.condition.Condition.Condition, declared.entry.Entry.Entry, declared.recipe.Recipe.Recipe}
 use Rattle.batch_model.specs.Rest.{Rest, in_seq, in_par, in_loop, done, Rests, rest, is_done, all_done, joined, turning}
 use Rattle.batch_chart.{specs.declared.node.Kind.TheVariants.Skip, specs.declared.node.Kind.TheVariants.Act, specs.declared.node.Kind.TheVariants.Seq, specs.declared.node.Kind.TheVariants.Par, specs.declared.node.Kind.TheVariants.Sel, specs.declared.node.Kind.TheVariants.Loop, specs.declared.stage.Stage.Stage, specs.declared.stage.Stage.TheVariants.Finished, specs.declared.stage.Stage.TheVariants.Ready, specs.declared.stage.Stage.TheVariants.Turning, specs.Stages.stage_at, specs.Stages.is_finished, specs.Stages.is_begun, specs.Stages.turns_of, specs.Stages.closed_as, specs.Stages.looped_as, specs.Meaning.meaning, specs.Meaning.meaning_below, specs.Meaning.meaning_each, specs.Meaning.act_as, specs.Meaning.loop_as, specs.Meaning.meaning_of_branch, specs.Meaning.chosen, specs.Meaning.AgreeWithin, specs.Meaning.AgreeOutside, specs.Outlined.end_at, specs.Outlined.kind_at, specs.Outlined.Stands, specs.Outlined.HasTree, specs.Outlined.HaveTrees, specs.Outlined.HaveChoices, specs.Outlined.condition_holds, specs.Outlined.condition_at, specs.Reaching.IsReached, specs.Reaching.IsFirstReached, specs.Reaching.IsEachReached, specs.Reaching.IsChoiceReached, proofs.TreePositions.stood, proofs.TreePositions.SkipAt, proofs.TreePositions.skip_at, proofs.TreePositions.skip-at, proofs.TreePositions.PhaseAt, proofs.TreePositions.phase_at, proofs.TreePositions.phase-at, proofs.TreePositions.ActAt, proofs.TreePositions.act_at, proofs.TreePositions.act-at, proofs.TreePositions.SeqAt, proofs.TreePositions.seq_at, proofs.TreePositions.seq-at, proofs.TreePositions.ParAt, proofs.TreePositions.par_at, proofs.TreePositions.par-at, proofs.TreePositions.SelAt, proofs.TreePositions.sel_at, proofs.TreePositions.sel-at, proofs.TreePositions.LoopAt, proofs.TreePositions.loop_at, proofs.TreePositions.loop-at, proofs.TreePositions.RowAt, proofs.TreePositions.row_at, proofs.TreePositions.row-at, proofs.TreePositions.row-end, proofs.TreePositions.LastAt, proofs.TreePositions.last_at, proofs.TreePositions.last-at, proofs.TreePositions.ChoiceAt, proofs.TreePositions.choice_at, proofs.TreePositions.choice-at, proofs.TreePositions.below-end, proofs.TreePositions.first-end, proofs.TreePositions.first-standing, proofs.TreePositions.choice-standing, proofs.TreePositions.choice-end, proofs.KnownTests.chosen-true, proofs.KnownTests.chosen-false, specs.Told.AreTold, proofs.FinishedStages.nests, proofs.FinishedStages.nests-each, proofs.FinishedStages.nests-choices, proofs.FinishedStages.nests-below, proofs.FinishedStages.told-finished, proofs.FinishedStages.told-reached, proofs.FinishedStages.told-one, proofs.FinishedStages.told-part, proofs.FinishedStages.told-same, proofs.FinishedStages.told-row, proofs.StageAgreement.stage-set_same, proofs.StageAgreement.stage-set_other, proofs.StageAgreement.meaning-agree, proofs.StageAgreement.meaning_each-agree, proofs.StageAgreement.branch-agree, proofs.StageAgreement.chosen-agree, specs.ByValues.reach_by, specs.ByValues.reach_first_by, specs.ByValues.reach_each_by, specs.ByValues.reach_chosen_by}
 use Rattle.batch_chart.specs.declared.node.Kind.TheVariants as kind
@@ -53,7 +53,7 @@ joins rs = go (all_done rs)
 pub joined-open : (rs : Rests) → all_done rs ≡ false → in_par rs ≡ joined rs
 joined-open rs e = sym (chosen-false (all_done rs) done (in_par rs) e)
 
-pub turning-done : (k : ℕ) (p : Cond) (body : Tree) (b : Rest) → is_done (turning k p body b) ≡ is_done b
+pub turning-done : (k : ℕ) (p : Condition) (body : Tree) (b : Rest) → is_done (turning k p body b) ≡ is_done b
 turning-done k p body b = go (is_done b)
   where
     go : (t : Bool) → is_done (elim t as (λ _. Rest) [ true ↦ done | false ↦ in_loop k p body b ]) ≡ t

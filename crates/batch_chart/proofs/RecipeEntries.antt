@@ -1,7 +1,7 @@
 -- The entries of a recipe stand for the nodes of its expanded tree, whatever units take its roles.
 use Rattle.std.proofs.Common.{◌≡◌, ℕ, zero, suc, ◌+◌, ◌≤◌, List, [], ◌∷◌, ◌++◌, length, Bool, true, false, not, ◌&&◌, Option, Some, None, slice_get, sym, ap, ◌∙◌, refl, subst, arith, append-nil, length-append}
 use Rattle.std.{proofs.lemmas.List.length-map, specs.List.list_all, specs.Prelude.⊤, specs.Prelude.map, proofs.lemmas.Bool.and_parts, proofs.lemmas.Option.slice_get_within}
-use Rattle.batch_recipe.{specs.Conditions.Name, specs.Conditions.same_name, specs.Diagram.Diagram, specs.Diagram.Diagrams, specs.Diagram.Cases, specs.Diagram.diagram_of, specs.Expanding.Binding, specs.Expanding.expanded, specs.Expanding.expanded_each, specs.Expanding.expanded_cases, specs.Expanding.act_named, specs.Expanding.act_tree_with, specs.Expanding.named_tree_with, specs.Expanding.unit_with, specs.Expanding.unit_below, specs.Expanding.asked_in_order, specs.Expanding.task_of, specs.Expanding.Sites, specs.Expanding.unit_named, specs.Expanding.needs_with, specs.Expanding.step_of, specs.Expanding.unit_count, specs.Needs.one_unit, specs.Growing.Head, specs.Growing.Labels, specs.Growing.LabelConditions, specs.Growing.entry, specs.Growing.plain_head, specs.Growing.act_head, specs.Growing.needs_count, specs.Growing.topped, specs.Growing.bare_entries, specs.Growing.grown, specs.Growing.grown_each, specs.Growing.grown_cases, specs.Growing.grown_work, specs.Growing.grown_act, specs.Growing.grown_named, specs.Growing.conditions_of_cases, specs.Growing.conditions_along, specs.Growing.conditions_along_each, specs.Growing.conditions_along_cases, specs.Growing.conditions_below, specs.Growing.conditions_named, specs.Growing.conditions_of, specs.Growing.levels_from, specs.Growing.number_in, specs.Growing.unit_number, specs.Growing.entries_of, specs.Nodes.node_count, specs.Nodes.count_of_each, specs.Nodes.count_of_choices, specs.Nodes.child, specs.Procedure.table_at, specs.Procedure.tables_from, specs.Procedure.level_below, specs.Procedure.bound_tree, specs.Procedure.sites, specs.Tree.Place, specs.Tree.Step, specs.Tree.Tree, specs.WellFormed.has_unit, specs.WellFormed.has_chart, specs.declared.act.Act.Act, specs.declared.act.UnitChoice.UnitChoice, specs.declared.act.Work.Work, specs.declared.act.Work.TheVariants.Follows, specs.declared.act.Work.TheVariants.Runs, specs.declared.acts.LabelTable.LabelTable, specs.declared.acts.LabelTable.TheVariants.UnitProcedures, specs.declared.acts.LabelTable.TheVariants.Operations, specs.declared.acts.LabelTable.TheVariants.Phases, specs.declared.condition.Cond.Cond, specs.declared.entry.Entry.Entry, specs.declared.recipe.Recipe.Recipe, proofs.Growth.found_at, proofs.Growth.not_found}
+use Rattle.batch_recipe.{specs.Conditions.Name, specs.Conditions.same_name, specs.Diagram.Diagram, specs.Diagram.Diagrams, specs.Diagram.Cases, specs.Diagram.diagram_of, specs.Expanding.Binding, specs.Expanding.expanded, specs.Expanding.expanded_each, specs.Expanding.expanded_cases, specs.Expanding.act_named, specs.Expanding.act_tree_with, specs.Expanding.named_tree_with, specs.Expanding.unit_with, specs.Expanding.unit_below, specs.Expanding.asked_in_order, specs.Expanding.task_of, specs.Expanding.Sites, specs.Expanding.unit_named, specs.Expanding.needs_with, specs.Expanding.step_of, specs.Expanding.unit_count, specs.Needs.one_unit, specs.Growing.Head, specs.Growing.Labels, specs.Growing.LabelConditions, specs.Growing.entry, specs.Growing.plain_head, specs.Growing.act_head, specs.Growing.needs_count, specs.Growing.topped, specs.Growing.bare_entries, specs.Growing.grown, specs.Growing.grown_each, specs.Growing.grown_cases, specs.Growing.grown_work, specs.Growing.grown_act, specs.Growing.grown_named, specs.Growing.conditions_of_cases, specs.Growing.conditions_along, specs.Growing.conditions_along_each, specs.Growing.conditions_along_cases, specs.Growing.conditions_below, specs.Growing.conditions_named, specs.Growing.conditions_of, specs.Growing.levels_from, specs.Growing.number_in, specs.Growing.unit_number, specs.Growing.entries_of, specs.Nodes.node_count, specs.Nodes.count_of_each, specs.Nodes.count_of_choices, specs.Nodes.child, specs.Procedure.table_at, specs.Procedure.tables_from, specs.Procedure.level_below, specs.Procedure.bound_tree, specs.Procedure.sites, specs.Tree.Place, specs.Tree.Step, specs.Tree.Tree, specs.WellFormed.has_unit, specs.WellFormed.has_chart, specs.declared.act.Act.Act, specs.declared.act.UnitChoice.UnitChoice, specs.declared.act.Work.Work, specs.declared.act.Work.TheVariants.Follows, specs.declared.act.Work.TheVariants.Runs, specs.declared.acts.LabelTable.LabelTable, specs.declared.acts.LabelTable.TheVariants.UnitProcedures, specs.declared.acts.LabelTable.TheVariants.Operations, specs.declared.acts.LabelTable.TheVariants.Phases, specs.declared.condition.Condition.Condition, specs.declared.entry.Entry.Entry, specs.declared.recipe.Recipe.Recipe, proofs.Growth.found_at, proofs.Growth.not_found}
 use Rattle.batch_recipe.specs.Diagram as diagram
 use Rattle.batch_recipe.specs.Tree as tree
 use Rattle.batch_recipe.specs.declared.entry.Kind as recipe
@@ -28,11 +28,11 @@ needs_counted own a = go a.unit
     go (Some choice) = omega (arith, both)
 
 -- the conditions are those of the outline from i on
-abbrev pub HaveConditions : Recipe → ℕ → List Cond → Type 0
+abbrev pub HaveConditions : Recipe → ℕ → List Condition → Type 0
 HaveConditions doc i [] = ⊤
 HaveConditions doc i (c ∷ cs) = IsCondition doc i c × HaveConditions doc (i + 1) cs
 
-conditions_from : (doc : Recipe) (j : ℕ) (xs : List Cond) → AreFrom doc.outline.conditions.items j xs → HaveConditions doc j xs
+conditions_from : (doc : Recipe) (j : ℕ) (xs : List Condition) → AreFrom doc.outline.conditions.items j xs → HaveConditions doc j xs
 conditions_from doc j [] h = tt
 conditions_from doc j (x ∷ xs) h = (from_head doc.outline.conditions.items j x xs h, conditions_from doc (j + 1) xs (from_tail doc.outline.conditions.items j x xs h))
 
@@ -40,7 +40,7 @@ module _ (doc : Recipe) (bound : Binding) where
   abbrev es : List Entry
   es = doc.outline.entries.items
 
-  abbrev all : List Cond
+  abbrev all : List Condition
   all = doc.outline.conditions.items
 
   -- the tree stands where the entries do
@@ -207,13 +207,13 @@ module _ (doc : Recipe) (bound : Binding) where
     abbrev found_entries : ℕ → Option Act → List Entry
     found_entries k found = elim found [ None ↦ bare_entries n u i | Some a ↦ act_entries k a ]
 
-    abbrev found_conditions : Option Act → List Cond
+    abbrev found_conditions : Option Act → List Condition
     found_conditions found = elim found [ None ↦ [] | Some a ↦ conditions_below told_below a.work ]
 
     abbrev named_entries : Option ℕ → List Entry
     named_entries number = elim number [ None ↦ bare_entries n u i | Some k ↦ found_entries k (slice_get (table_at doc.acts table) k) ]
 
-    abbrev named_conditions : Option ℕ → List Cond
+    abbrev named_conditions : Option ℕ → List Condition
     named_conditions number = elim number [ None ↦ [] | Some k ↦ found_conditions (slice_get (table_at doc.acts table) k) ]
 
     abbrev named_trees : Option Act → Tree

@@ -1,7 +1,7 @@
 -- A running chart is in order over every chart of its tree, and calls keep it a running one.
 use Rattle.std.proofs.Common.{◌≡◌, inl, inr, ◌<◌, ◌≤◌, ◌∙◌, refl, sym, subst, ap, arith, ℕ, ◌+◌, List, length, Bool, Some, None, [], ◌∷◌, zero, suc}
 use Rattle.std.specs.{Prelude.Option, Prelude.IfSome, VecDeque.deque_capacity}
-use Rattle.batch_recipe.specs.{Nodes.node_count, Conditions.Name, declared.condition.Cond.Cond, Tree.Step, Tree.Phase, Tree.Trees, Tree.Choices, Tree.Tree, Tree.runs, Tree.follows, Tree.act, Tree.skip, Tree.seq, Tree.par, Tree.sel, Tree.loop, declared.entry.Entry.Entry, declared.recipe.Recipe.Recipe, Conditions.ValueList}
+use Rattle.batch_recipe.specs.{Nodes.node_count, Conditions.Name, declared.condition.Condition.Condition, Tree.Step, Tree.Phase, Tree.Trees, Tree.Choices, Tree.Tree, Tree.runs, Tree.follows, Tree.act, Tree.skip, Tree.seq, Tree.par, Tree.sel, Tree.loop, declared.entry.Entry.Entry, declared.recipe.Recipe.Recipe, Conditions.ValueList}
 use Rattle.batch_chart.{specs.declared.running.Running.Running, specs.declared.stage.Stage.Stage, specs.Early.AreHeld, specs.Early.AreNodes, specs.Early.in_advance, specs.declared.passed.Passed.Passed, proofs.ActPlaces.withdrawn-reached, specs.Charts.IsChartOf, specs.Charts.IsRunning, specs.Charts.IsRunningOf, specs.Charts.RunsAs, specs.Charts.remains, specs.Meaning.meaning, specs.Starting.HasStarted, specs.Starting.AreStarted, specs.Starting.HasWithdrawn, specs.Starting.AreWithdrawn, proofs.WithdrawalSigns.withdrawn-neat, specs.Outlined.end_at, specs.Outlined.Stands, specs.Noting.stage_signs, specs.Neat.act_shows, specs.Neat.runs_below, specs.Neat.is_single, specs.Neat.shown_of, specs.Neat.AreNeat, specs.Nexts.IsInOrder, specs.NodesOf.most_by, specs.NodesOf.needs_in, specs.NodesOf.node_at, specs.NodesOf.own_units, specs.Running.IsLaid, specs.Running.IsAlive, specs.Stages.stage_at, specs.Stages.is_finished, specs.Upkeep.IsKeptUp, proofs.NodesAtNumbers.node-stands, proofs.ActSigns.noted, proofs.ChartChange.all-told, proofs.TreePositions.stood, proofs.TreePositions.PhaseAt, proofs.TreePositions.phase_at, proofs.TreePositions.phase-at, proofs.TreePositions.ActAt, proofs.TreePositions.act_at, proofs.TreePositions.act-at, proofs.TreePositions.SkipAt, proofs.TreePositions.skip_at, proofs.TreePositions.skip-at, proofs.TreePositions.SeqAt, proofs.TreePositions.seq_at, proofs.TreePositions.seq-at, proofs.TreePositions.ParAt, proofs.TreePositions.par_at, proofs.TreePositions.par-at, proofs.TreePositions.SelAt, proofs.TreePositions.sel_at, proofs.TreePositions.sel-at, proofs.TreePositions.LoopAt, proofs.TreePositions.loop_at, proofs.TreePositions.loop-at, specs.ByValues.reach_by}
 use Rattle.batch_model.specs.{Rest.Rest, Rest.withdrawn, Plant.InAdvance, Lists.Has}
 
@@ -30,7 +30,7 @@ module _ (ns : List Entry) (doc : Recipe) (n : ℕ) where
   like-sel : (ch : Choices) (i : ℕ) (d : Tree) → SelAt ns doc n i d → AreLike (sel ch) d
   like-sel ch i _ (sel_at dh a) = record { below = λ x. refl; single = refl; shows = λ x b. refl }
 
-  like-loop : (k i : ℕ) (p : Cond) (body d : Tree) → LoopAt ns doc n k i d → AreLike (loop k p body) d
+  like-loop : (k i : ℕ) (p : Condition) (body d : Tree) → LoopAt ns doc n k i d → AreLike (loop k p body) d
   like-loop k i p body _ (loop_at q other a b e) = record { below = λ x. refl; single = refl; shows = λ x b. refl }
 
   like : (c d : Tree) → Stands ns doc n c → Stands ns doc n d → AreLike c d

@@ -1,7 +1,7 @@
 -- Two trees at the same nodes show the same signs.
 use Rattle.std.proofs.Common.{◌≡◌, ◌≢◌, ℕ, suc, ◌+◌, List, [], ◌∷◌, ◌++◌, length, Bool, true, false, Some, None, arith, refl, sym, ◌∙◌, ap, ap₂, subst, nat_eq}
 use Rattle.std.specs.Prelude.{Option, map}
-use Rattle.batch_recipe.{specs.Conditions.Name, specs.Nodes.node_count, specs.Tree.Step, specs.Tree.Phase, specs.Tree.Task, specs.Tree.runs, specs.Tree.follows, specs.Tree.Tree, specs.Tree.act, specs.Tree.skip, specs.Tree.seq, specs.Tree.par, specs.Tree.sel, specs.Tree.loop, specs.Tree.Trees, specs.Tree.no_trees, specs.Tree.tree, specs.Tree.Choices, specs.Tree.otherwise, specs.Tree.choice, specs.declared.condition.Cond.Cond, specs.declared.entry.Entry.Entry, specs.declared.recipe.Recipe.Recipe, proofs.NodeSubtrees.some_count}
+use Rattle.batch_recipe.{specs.Conditions.Name, specs.Nodes.node_count, specs.Tree.Step, specs.Tree.Phase, specs.Tree.Task, specs.Tree.runs, specs.Tree.follows, specs.Tree.Tree, specs.Tree.act, specs.Tree.skip, specs.Tree.seq, specs.Tree.par, specs.Tree.sel, specs.Tree.loop, specs.Tree.Trees, specs.Tree.no_trees, specs.Tree.tree, specs.Tree.Choices, specs.Tree.otherwise, specs.Tree.choice, specs.declared.condition.Condition.Condition, specs.declared.entry.Entry.Entry, specs.declared.recipe.Recipe.Recipe, proofs.NodeSubtrees.some_count}
 use Rattle.batch_model.specs.{Rest.Rest, Rest.done, Rest.acts, Moves.is_empty}
 use Rattle.batch_chart.{specs.declared.stage.Stage.Stage, specs.declared.stage.Stage.TheVariants.Ready, specs.declared.stage.Stage.TheVariants.Asking, specs.declared.stage.Stage.TheVariants.Open, specs.declared.stage.Stage.TheVariants.Live, specs.declared.stage.Stage.TheVariants.Freeing, specs.Stages.stage_at, specs.Stages.is_finished, specs.Stages.is_begun, specs.Stages.turns_of, specs.Meaning.meaning, specs.Meaning.act_as, specs.Outlined.end_at, specs.Outlined.Stands, specs.Outlined.StandsAct, specs.Outlined.AreStanding, specs.Outlined.AreChoices, specs.Numbered.entries, specs.Numbered.entries_in, specs.Numbered.numbered, specs.Numbered.numbered_each, specs.Numbered.numbered_branch, specs.Numbered.numbered_chosen, specs.Noting.signs_of, specs.Noting.ready_signs, specs.Noting.asking_signs, specs.Noting.freeing_signs, specs.Noting.live_signs, specs.Noting.open_signs, specs.Noting.sign_in, proofs.TreePositions.SkipAt, proofs.TreePositions.skip_at, proofs.TreePositions.skip-at, proofs.TreePositions.PhaseAt, proofs.TreePositions.phase_at, proofs.TreePositions.phase-at, proofs.TreePositions.ActAt, proofs.TreePositions.act_at, proofs.TreePositions.act-at, proofs.TreePositions.SeqAt, proofs.TreePositions.seq_at, proofs.TreePositions.seq-at, proofs.TreePositions.ParAt, proofs.TreePositions.par_at, proofs.TreePositions.par-at, proofs.TreePositions.SelAt, proofs.TreePositions.sel_at, proofs.TreePositions.sel-at, proofs.TreePositions.LoopAt, proofs.TreePositions.loop_at, proofs.TreePositions.loop-at, proofs.TreePositions.RowAt, proofs.TreePositions.row_at, proofs.TreePositions.row-at, proofs.TreePositions.row-end, proofs.TreePositions.LastAt, proofs.TreePositions.last_at, proofs.TreePositions.last-at, proofs.TreePositions.ChoiceAt, proofs.TreePositions.choice_at, proofs.TreePositions.choice-at, proofs.TreePositions.stood, proofs.TreePositions.stood-each, proofs.TreePositions.stood-choices, proofs.TreePositions.choices-pos, proofs.NumberedActs.numbered-acts}
 
@@ -108,7 +108,7 @@ module _ (ns : List Entry) (doc : Recipe) (xs : List Stage) where
       go : (d : Tree) → SelAt ns doc n h.0 d → marks (numbered (sel ch) n xs) ≡ marks (numbered d n xs)
       go _ (sel_at dh a) = alike-if (is_begun (stage_at xs n)) (numbered_chosen ch (n + 1) xs) (numbered_chosen dh (n + 1) xs) [] [] (same h.0 dh a) refl
 
-  same-loop : (n k : ℕ) (p : Cond) (body : Tree) → Stands ns doc n (loop k p body) → SameTree (n + 1) body → SameTree n (loop k p body)
+  same-loop : (n k : ℕ) (p : Condition) (body : Tree) → Stands ns doc n (loop k p body) → SameTree (n + 1) body → SameTree n (loop k p body)
   same-loop n k p body h same d q = go d (loop-at ns doc n k h.0 h.1.1 d q)
     where
       go : (d : Tree) → LoopAt ns doc n k h.0 d → marks (numbered (loop k p body) n xs) ≡ marks (numbered d n xs)
@@ -151,7 +151,7 @@ module _ (ns : List Entry) (doc : Recipe) (xs : List Stage) where
       go : (dh : Choices) → LastAt ns doc n m dh → marks (numbered_chosen (otherwise c) n xs) ≡ marks (numbered_chosen dh n xs)
       go _ (last_at d a) = same d a
 
-  choice-more : (n m j : ℕ) (p : Cond) (c : Tree) (ch : Choices) → Stands ns doc n c → AreChoices ns doc j (n + node_count c) m ch → SameTree n c → SameChoice (n + node_count c) m ch → SameChoice n m (choice p c ch)
+  choice-more : (n m j : ℕ) (p : Condition) (c : Tree) (ch : Choices) → Stands ns doc n c → AreChoices ns doc j (n + node_count c) m ch → SameTree n c → SameChoice (n + node_count c) m ch → SameChoice n m (choice p c ch)
   choice-more n m j p c ch h a same later i dh k = go dh (choice-at ns doc i n m (λ e. absurd (omega (arith, e, own, stood-choices ns doc j (n + node_count c) m ch a, choices-pos ch))) dh k)
     where
       own : end_at ns n ≡ n + node_count c

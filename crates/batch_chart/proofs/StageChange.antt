@@ -1,7 +1,7 @@
 -- The meaning of a change of one act's stage, or of its descendants.
 use Rattle.std.proofs.Common.{◌≡◌, ◌≢◌, ◌⊎◌, inl, inr, ◌≤◌, ℕ, zero, suc, ◌+◌, List, Bool, true, false, Some, None, nat_eq, arith, refl, sym, ◌∙◌, subst, ap}
 use Rattle.std.{specs.Prelude.slice_get, specs.Prelude.Option, proofs.lemmas.Bool.eq-eqb, proofs.lemmas.Bool.cases_lt, proofs.lemmas.Bool.Decides.eqb_tells}
-use Rattle.batch_recipe.specs.{declared.condition.Cond.Cond, Nodes.node_count, Nodes.count_of_each, Nodes.count_of_choices, Places.AreInOrder, Tree.Place, Tree.Step, Tree.Task, Tree.runs, Tree.follows, Tree.Tree, Tree.act, Tree.skip, Tree.seq, Tree.par, Tree.sel, Tree.loop, Tree.Trees, Tree.no_trees, Tree.tree, Tree.Choices, Tree.otherwise, Tree.choice, declared.entry.Entry.Entry, declared.recipe.Recipe.Recipe}
+use Rattle.batch_recipe.specs.{declared.condition.Condition.Condition, Nodes.node_count, Nodes.count_of_each, Nodes.count_of_choices, Places.AreInOrder, Tree.Place, Tree.Step, Tree.Task, Tree.runs, Tree.follows, Tree.Tree, Tree.act, Tree.skip, Tree.seq, Tree.par, Tree.sel, Tree.loop, Tree.Trees, Tree.no_trees, Tree.tree, Tree.Choices, Tree.otherwise, Tree.choice, declared.entry.Entry.Entry, declared.recipe.Recipe.Recipe}
 use Rattle.batch_recipe.specs.Nodes as nodes
 use Rattle.batch_model.specs.{Rest.same_place, Rest.Rest, Rest.ready, Rest.asking, Rest.open_act, Rest.live, Rest.freeing, Rest.in_seq, Rest.in_par, Rest.done, Rest.rest, Rest.changed_at, Rest.changed_in_each, Rest.is_done, Moves.freed}
 use Rattle.batch_chart.{specs.declared.node.Kind.Kind, specs.declared.node.Kind.TheVariants.Seq, specs.declared.node.Kind.TheVariants.Par, specs.declared.node.Kind.TheVariants.Sel, specs.declared.node.Kind.TheVariants.Loop, specs.declared.stage.Stage.Stage, specs.declared.stage.Stage.TheVariants.Ready, specs.declared.stage.Stage.TheVariants.Asking, specs.declared.stage.Stage.TheVariants.Open, specs.declared.stage.Stage.TheVariants.Live, specs.declared.stage.Stage.TheVariants.Freeing, specs.Stages.stage_at, specs.Stages.is_finished, specs.Stages.is_begun, specs.Stages.turns_of, specs.Meaning.meaning, specs.Meaning.meaning_below, specs.Meaning.meaning_each, specs.Meaning.act_as, specs.Meaning.loop_as, specs.Meaning.meaning_of_branch, specs.Meaning.chosen, specs.Meaning.AgreeOutside, specs.Outlined.end_at, specs.Outlined.kind_at, specs.Outlined.is_act_kind, specs.Outlined.Stands, specs.Outlined.StandsAct, specs.Outlined.AreStanding, specs.Outlined.AreChoices, proofs.TreePositions.nested, proofs.KnownTests.chosen-true, proofs.KnownTests.chosen-false, proofs.KnownTests.choice-map, proofs.TreeAdvance.finished-stage, proofs.FinishedStages.finished-means, proofs.NodeNumbers.IsMarked, proofs.NodeNumbers.IsMarkedBelow, proofs.NodeNumbers.AreMarked, proofs.NodeNumbers.AreMarkedChoices}
@@ -35,7 +35,7 @@ module _ (p : Place) (f : Rest → Rest) where
   changed-own s w r (Freeing (suc i)) e o = chosen-true (same_place s.place p) (f (freeing s (suc i))) (freeing s (suc i)) e
   changed-own x1 x2 x3 x4 x5 x6 = absurd (grind arith)
 
-  changed-loop : (o : Option ℕ) (q : Cond) (body : Tree) (r : Rest) → changed_at p f (loop_as o q body r) ≡ loop_as o q body (changed_at p f r)
+  changed-loop : (o : Option ℕ) (q : Condition) (body : Tree) (r : Rest) → changed_at p f (loop_as o q body r) ≡ loop_as o q body (changed_at p f r)
   changed-loop None q body r = refl
   changed-loop (Some i) q body r = refl
 

@@ -1,7 +1,7 @@
 -- Charts whose root is ready, and those in which no act stands in line.
 use Rattle.std.proofs.Common.{◌≡◌, ◌⊎◌, inl, inr, ◌<◌, ◌≤◌, [], ◌∷◌, length, arith, below_more, ℕ, zero, suc, ◌+◌, List, true, false, refl, sym, ◌∙◌, ap, subst, length-set, replicate, Bool, nat_eq}
 use Rattle.std.{specs.Prelude.Option, specs.Prelude.Some, specs.Prelude.None, specs.Prelude.slice_set, proofs.lemmas.Bool.cases_lt, proofs.lemmas.Bool.Decides.eqb_tells, proofs.lemmas.List.get_or_past, proofs.lemmas.List.get_or-replicate, proofs.lemmas.List.length-replicate}
-use Rattle.batch_recipe.{specs.Conditions.ValueList, specs.declared.condition.Cond.Cond, specs.Nodes.node_count, specs.Tree.Step, specs.Tree.Task, specs.Tree.runs, specs.Tree.follows, specs.Tree.Tree, specs.Tree.act, specs.Tree.skip, specs.Tree.seq, specs.Tree.par, specs.Tree.sel, specs.Tree.loop, specs.Tree.Trees, specs.Tree.no_trees, specs.Tree.tree, specs.Tree.Choices, specs.Tree.otherwise, specs.Tree.choice, specs.declared.entry.Entry.Entry, specs.declared.recipe.Recipe.Recipe, proofs.NodeSubtrees.some_count}
+use Rattle.batch_recipe.{specs.Conditions.ValueList, specs.declared.condition.Condition.Condition, specs.Nodes.node_count, specs.Tree.Step, specs.Tree.Task, specs.Tree.runs, specs.Tree.follows, specs.Tree.Tree, specs.Tree.act, specs.Tree.skip, specs.Tree.seq, specs.Tree.par, specs.Tree.sel, specs.Tree.loop, specs.Tree.Trees, specs.Tree.no_trees, specs.Tree.tree, specs.Tree.Choices, specs.Tree.otherwise, specs.Tree.choice, specs.declared.entry.Entry.Entry, specs.declared.recipe.Recipe.Recipe, proofs.NodeSubtrees.some_count}
 use Rattle.batch_model.specs.{Rest.Rest, Rest.ready, Rest.in_seq, Rest.in_par, Rest.done, Rest.rest, Rest.is_done, Rest.withdrawn, Rest.withdrawn_each, Moves.freed, Settled.IsAdvanced, Standing.IsRestOf}
 use Rattle.batch_step_laws.proofs.{AdvancedRests.reach-advanced, AdvancedRests.withdrawn-advanced, AdvancedRests.withdrawn-done, RestsAfterChange.withdrawn-IsRestOf, NodesOfRests.reach-IsRestOf}
 use Rattle.batch_chart.{specs.declared.stage.Stage.Stage, specs.declared.stage.Stage.TheVariants.Finished, specs.declared.stage.Stage.TheVariants.Ready, specs.declared.stage.Stage.TheVariants.Asking, specs.declared.stage.Stage.TheVariants.Open, specs.declared.stage.Stage.TheVariants.Live, specs.declared.stage.Stage.TheVariants.Freeing, specs.declared.stage.Stage.TheVariants.Turning, specs.Stages.stage_at, specs.Stages.is_finished, specs.Stages.is_begun, specs.Stages.turns_of, specs.Meaning.act_as, specs.Meaning.loop_as, specs.Meaning.meaning, specs.Meaning.meaning_below, specs.Meaning.meaning_each, specs.Meaning.meaning_of_branch, specs.Meaning.chosen, specs.Running.IsActTree, specs.Running.IsAlive, specs.Outlined.end_at, specs.Outlined.kind_at, specs.Outlined.Stands, specs.declared.node.Kind.TheVariants.Act, specs.Neat.AllFinished, specs.Neat.AreNeat, specs.Needs.needs_of_kind, specs.Noting.stage_signs, specs.Starting.HasStarted, specs.Starting.AreStarted, specs.Starting.again, specs.Starting.HasWithdrawn, proofs.ReachedTreeSigns.neatly-ready, proofs.TreePositions.stood, specs.NodesOf.node_at, specs.Told.TellsWhetherOver, proofs.FinishedStages.told-finished, proofs.KnownTests.choice-map, proofs.StageAgreement.stage-set_same, proofs.StageAgreement.stage-set_other, specs.ByValues.bare, specs.ByValues.reach_by}
@@ -111,7 +111,7 @@ act-again s (follows name c) r (Live x) = refl
 act-again s w r (Freeing k) = withdrawn-freed s k
 act-again s w r (Turning k) = refl
 
-loop-again : (o : Option ℕ) (p : Cond) (body : Tree) (r : Rest) → loop_as o p body (withdrawn r) ≡ withdrawn (loop_as o p body r)
+loop-again : (o : Option ℕ) (p : Condition) (body : Tree) (r : Rest) → loop_as o p body (withdrawn r) ≡ withdrawn (loop_as o p body r)
 loop-again None p body r = refl
 loop-again (Some k) p body r = refl
 

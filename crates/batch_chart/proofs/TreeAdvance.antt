@@ -1,7 +1,7 @@
 -- Going on with a tree: the conditions at each kind of node.
 use Rattle.std.proofs.Common.{◌≡◌, ◌≢◌, ◌⊎◌, inl, inr, ◌<◌, ◌≤◌, ℕ, zero, suc, ◌+◌, ◌-◌, List, length, Bool, true, false, Some, arith, refl, sym, ◌∙◌, subst, ap, pred, sub-one}
 use Rattle.std.specs.Prelude.{not, slice_set}
-use Rattle.batch_recipe.specs.{Conditions.Name, Conditions.ValueList, Conditions.holds, Nodes.node_count, Nodes.count_of_each, Nodes.count_of_choices, Tree.Step, Tree.Phase, Tree.Task, Tree.runs, Tree.follows, Tree.Tree, Tree.loop, Tree.Trees, Tree.Choices, declared.condition.Cond.Cond, declared.entry.Entry.Entry, declared.recipe.Recipe.Recipe}
+use Rattle.batch_recipe.specs.{Conditions.Name, Conditions.ValueList, Conditions.holds, Nodes.node_count, Nodes.count_of_each, Nodes.count_of_choices, Tree.Step, Tree.Phase, Tree.Task, Tree.runs, Tree.follows, Tree.Tree, Tree.loop, Tree.Trees, Tree.Choices, declared.condition.Condition.Condition, declared.entry.Entry.Entry, declared.recipe.Recipe.Recipe}
 use Rattle.batch_model.specs.{Rest.Rest, Rest.in_seq, Rest.in_par, Rest.in_loop, Rest.done, Rest.is_done, Rest.joined, Rest.turning, Moves.freed}
 use Rattle.batch_chart.{specs.declared.node.Kind.Kind, specs.declared.node.Kind.TheVariants.Act, specs.declared.node.Kind.TheVariants.Seq, specs.declared.node.Kind.TheVariants.Par, specs.declared.node.Kind.TheVariants.Sel, specs.declared.node.Kind.TheVariants.Loop, specs.declared.stage.Stage.Stage, specs.declared.stage.Stage.TheVariants.Finished, specs.declared.stage.Stage.TheVariants.Open, specs.declared.stage.Stage.TheVariants.Freeing, specs.declared.stage.Stage.TheVariants.Turning, specs.Stages.stage_at, specs.Stages.is_finished, specs.Stages.is_begun, specs.Stages.is_over, specs.Stages.is_over_at, specs.Stages.turns_of, specs.Stages.closed_as, specs.Stages.looped_as, specs.Meaning.meaning, specs.Meaning.meaning_each, specs.Meaning.act_as, specs.Meaning.loop_as, specs.Meaning.meaning_of_branch, specs.Meaning.chosen, specs.Meaning.AgreeWithin, specs.Meaning.AgreeOutside, specs.Outlined.end_at, specs.Outlined.kind_at, specs.Outlined.IsCondition, specs.Outlined.Stands, specs.Outlined.HasTree, specs.Outlined.HaveTrees, specs.Outlined.HaveBranches, specs.Outlined.condition_holds, specs.Outlined.condition_at, specs.Reaching.IsReached, specs.Reaching.IsFirstReached, specs.Advancing.HasAdvanced, specs.Advancing.HasFirstAdvanced, specs.Advancing.HasEachAdvanced, specs.Advancing.HasChoiceAdvanced, proofs.TreePositions.stood, proofs.TreePositions.ActAt, proofs.TreePositions.act_at, proofs.TreePositions.act-at, proofs.TreePositions.SeqAt, proofs.TreePositions.seq_at, proofs.TreePositions.seq-at, proofs.TreePositions.ParAt, proofs.TreePositions.par_at, proofs.TreePositions.par-at, proofs.TreePositions.SelAt, proofs.TreePositions.sel_at, proofs.TreePositions.sel-at, proofs.TreePositions.LoopAt, proofs.TreePositions.loop_at, proofs.TreePositions.loop-at, proofs.TreePositions.RowAt, proofs.TreePositions.row_at, proofs.TreePositions.row-at, proofs.TreePositions.LastAt, proofs.TreePositions.last_at, proofs.TreePositions.last-at, proofs.TreePositions.ChoiceAt, proofs.TreePositions.choice_at, proofs.TreePositions.choice-at, proofs.TreePositions.below-end, proofs.TreePositions.first-end, proofs.TreePositions.first-standing, proofs.TreePositions.choice-standing, proofs.TreePositions.choice-end, proofs.KnownTests.chosen-true, proofs.KnownTests.chosen-false, proofs.FinishedStages.finished-means, proofs.StageAgreement.stage-set_same, proofs.StageAgreement.meaning-agree, proofs.StageAgreement.meaning_each-agree, proofs.StageAgreement.branch-agree, proofs.StageAgreement.chosen-agree, proofs.ReachedTree.outside-same, proofs.ReachedTree.outside-part, proofs.ReachedTree.outside-join, proofs.ReachedTree.outside-inner, proofs.ReachedTree.within-set, proofs.ReachedTree.own-outside, proofs.ReachedTree.loop-outside, proofs.ReachedTree.finished-closed, proofs.ReachedTree.begun-closed, proofs.ReachedTree.joins, proofs.ReachedTree.joined-open, specs.ByValues.turned_by, specs.ByValues.reach_by, specs.ByValues.reach_first_by, specs.ByValues.advance_by, specs.ByValues.advance_each_by}
 
@@ -41,17 +41,17 @@ unover-unfinished x1 x2 = grind arith
 
 -- a turn, after going on
 
-turned-last : (vs : ValueList) (k : ℕ) (p : Cond) (body : Tree) (b : Rest) → is_done b ≡ true → k ≡ 0 → turned_by vs k p body b ≡ done
+turned-last : (vs : ValueList) (k : ℕ) (p : Condition) (body : Tree) (b : Rest) → is_done b ≡ true → k ≡ 0 → turned_by vs k p body b ≡ done
 turned-last vs zero p body b e l = chosen-true (is_done b) done (in_loop 0 p body b) e
 turned-last vs (suc k) p body b e l = absurd (omega arith)
 
-turned-holds : (vs : ValueList) (k : ℕ) (p : Cond) (body : Tree) (b : Rest) → is_done b ≡ true → holds vs p ≡ true → turned_by vs k p body b ≡ done
+turned-holds : (vs : ValueList) (k : ℕ) (p : Condition) (body : Tree) (b : Rest) → is_done b ≡ true → holds vs p ≡ true → turned_by vs k p body b ≡ done
 turned-holds vs zero p body b e h = chosen-true (is_done b) done (in_loop 0 p body b) e
 turned-holds vs (suc k) p body b e h =
     chosen-true (is_done b) (elim (holds vs p) as (λ _. Rest) [ true ↦ done | false ↦ turning k p body (reach_by vs body) ]) (in_loop (suc k) p body b) e
     ∙ chosen-true (holds vs p) done (turning k p body (reach_by vs body)) h
 
-turned-more : (vs : ValueList) (k : ℕ) (p : Cond) (body : Tree) (b : Rest) → is_done b ≡ true → holds vs p ≡ false → k ≢ 0 → turned_by vs k p body b ≡ turning (pred k) p body (reach_by vs body)
+turned-more : (vs : ValueList) (k : ℕ) (p : Condition) (body : Tree) (b : Rest) → is_done b ≡ true → holds vs p ≡ false → k ≢ 0 → turned_by vs k p body b ≡ turning (pred k) p body (reach_by vs body)
 turned-more vs zero p body b e h l = absurd (l refl)
 turned-more vs (suc k) p body b e h l =
     chosen-true (is_done b) (elim (holds vs p) as (λ _. Rest) [ true ↦ done | false ↦ turning k p body (reach_by vs body) ]) (in_loop (suc k) p body b) e
@@ -186,7 +186,7 @@ module _ (ns : List Entry) (doc : Recipe) (vs : ValueList) (xs : List Stage) (n 
 
   -- a loop that runs
   module _ (ys : List Stage) (k i left : ℕ) (e : kind_at ns n ≡ Loop k i) (runs_on : Some left ≡ turns_of (stage_at xs n)) where
-    is-loop : (p : Cond) (body : Tree) → advance_by vs (meaning (loop k p body) n xs) ≡ turned_by vs left p body (advance_by vs (meaning body (n + 1) xs))
+    is-loop : (p : Condition) (body : Tree) → advance_by vs (meaning (loop k p body) n xs) ≡ turned_by vs left p body (advance_by vs (meaning body (n + 1) xs))
     is-loop p body = ap (λ o. advance_by vs (loop_as o p body (meaning body (n + 1) xs))) (sym runs_on)
 
     -- the last turn is over: no turn may follow, or the condition holds
@@ -200,7 +200,7 @@ module _ (ns : List Entry) (doc : Recipe) (vs : ValueList) (xs : List Stage) (n 
             is-loop p body ∙ turned-holds vs left p body (advance_by vs (meaning body (n + 1) xs)) (sym (a.means body q).1) (sym (z ∙ ap (λ d. condition_holds d vs) w))
 
     module _ (zs : List Stage) (more : left ≢ 0) (goes_on : false ≡ condition_holds (condition_at doc i) vs) (a : HasAdvanced ns doc vs (n + 1) xs ys true) (kept : length ys ≡ length ns) (lt : n < length zs) where
-      is-next : (p : Cond) (body : Tree) → IsCondition doc i p → Stands ns doc (n + 1) body → advance_by vs (meaning (loop k p body) n xs) ≡ turning (pred left) p body (reach_by vs body)
+      is-next : (p : Condition) (body : Tree) → IsCondition doc i p → Stands ns doc (n + 1) body → advance_by vs (meaning (loop k p body) n xs) ≡ turning (pred left) p body (reach_by vs body)
       is-next p body w q = is-loop p body ∙ turned-more vs left p body (advance_by vs (meaning body (n + 1) xs)) (sym (a.means body q).1) (sym (goes_on ∙ ap (λ d. condition_holds d vs) w)) more
 
       both-outside : (f : Bool) → IsReached ns doc vs (n + 1) ys zs f → AgreeOutside (n + 1) (end_at ns n) xs zs

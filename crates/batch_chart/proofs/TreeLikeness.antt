@@ -1,7 +1,7 @@
 -- Trees that stand at the same node, and stages that differ below one node alone: as much is left of them, and as much to be reached.
 use Rattle.std.proofs.Common.{◌≡◌, ◌≢◌, ◌⊎◌, inl, inr, ◌<◌, ◌≤◌, ℕ, zero, suc, ◌+◌, List, length, Bool, true, false, ◌&&◌, Some, None, arith, refl, sym, ◌∙◌, subst, ap, ap₂}
 use Rattle.std.{specs.Prelude.Option, proofs.lemmas.Bool.cases_lt, proofs.lemmas.Bool.Decides.eqb_tells}
-use Rattle.batch_recipe.{specs.Conditions.Name, specs.declared.condition.Cond.Cond, specs.Nodes.node_count, specs.Tree.Step, specs.Tree.Phase, specs.Tree.runs, specs.Tree.follows, specs.Tree.Tree, specs.Tree.act, specs.Tree.skip, specs.Tree.seq, specs.Tree.par, specs.Tree.sel, specs.Tree.loop, specs.Tree.Trees, specs.Tree.no_trees, specs.Tree.tree, specs.Tree.Choices, specs.Tree.otherwise, specs.Tree.choice, specs.declared.entry.Entry.Entry, specs.declared.recipe.Recipe.Recipe, proofs.NodeSubtrees.some_count}
+use Rattle.batch_recipe.{specs.Conditions.Name, specs.declared.condition.Condition.Condition, specs.Nodes.node_count, specs.Tree.Step, specs.Tree.Phase, specs.Tree.runs, specs.Tree.follows, specs.Tree.Tree, specs.Tree.act, specs.Tree.skip, specs.Tree.seq, specs.Tree.par, specs.Tree.sel, specs.Tree.loop, specs.Tree.Trees, specs.Tree.no_trees, specs.Tree.tree, specs.Tree.Choices, specs.Tree.otherwise, specs.Tree.choice, specs.declared.entry.Entry.Entry, specs.declared.recipe.Recipe.Recipe, proofs.NodeSubtrees.some_count}
 use Rattle.batch_model.specs.{Rest.Rest, Rest.in_seq, Rest.in_par, Rest.done, Rest.Rests, Rest.rest, Rest.is_done, Rest.all_done, Moves.freed, Settled.IsAdvanced, Settled.AreAdvanced}
 use Rattle.batch_chart.{specs.declared.stage.Stage.Stage, specs.declared.stage.Stage.TheVariants.Open, specs.declared.stage.Stage.TheVariants.Freeing, specs.Stages.stage_at, specs.Stages.is_finished, specs.Stages.is_begun, specs.Stages.turns_of, specs.Meaning.meaning, specs.Meaning.meaning_each, specs.Meaning.act_as, specs.Meaning.loop_as, specs.Meaning.meaning_of_branch, specs.Meaning.chosen, specs.Meaning.AgreeOutside, specs.Outlined.end_at, specs.Outlined.Stands, specs.Outlined.AreStanding, specs.Outlined.AreChoices, specs.Told.TellsWhetherOver, specs.Told.AreTold, proofs.TreePositions.choices-pos, proofs.TreePositions.stood, proofs.TreePositions.stood-each, proofs.TreePositions.stood-choices, proofs.TreePositions.nested, proofs.TreePositions.PhaseAt, proofs.TreePositions.phase_at, proofs.TreePositions.phase-at, proofs.TreePositions.ActAt, proofs.TreePositions.act_at, proofs.TreePositions.act-at, proofs.TreePositions.SkipAt, proofs.TreePositions.skip_at, proofs.TreePositions.skip-at, proofs.TreePositions.SeqAt, proofs.TreePositions.seq_at, proofs.TreePositions.seq-at, proofs.TreePositions.ParAt, proofs.TreePositions.par_at, proofs.TreePositions.par-at, proofs.TreePositions.SelAt, proofs.TreePositions.sel_at, proofs.TreePositions.sel-at, proofs.TreePositions.LoopAt, proofs.TreePositions.loop_at, proofs.TreePositions.loop-at}
 
@@ -32,7 +32,7 @@ like-par rs qs a = (refl, λ h. (sym a.0 ∙ h.0, a.1 h.1))
 like-each : (r q : Rest) (rs qs : Rests) → Alike r q → AllAlike rs qs → AllAlike (rest r rs) (rest q qs)
 like-each r q rs qs a b = (ap₂ (λ x y. x && y) a.0 b.0, λ h. (a.1 h.0, b.1 h.1))
 
-like-loop : (o e : Option ℕ) (p w : Cond) (body other : Tree) (r q : Rest) → o ≡ e → Alike r q → Alike (loop_as o p body r) (loop_as e w other q)
+like-loop : (o e : Option ℕ) (p w : Condition) (body other : Tree) (r q : Rest) → o ≡ e → Alike r q → Alike (loop_as o p body r) (loop_as e w other q)
 like-loop o e p w body other r q s a = subst (λ z. Alike (loop_as o p body r) (loop_as z w other q)) s (go o)
   where
     go : (o : Option ℕ) → Alike (loop_as o p body r) (loop_as o w other q)
@@ -73,7 +73,7 @@ module _ (ns : List Entry) (doc : Recipe) (n : ℕ) where
   sel-like : (i : ℕ) (d : Tree) → SelAt ns doc n i d → (ch : Choices) × (d ≡ sel ch) × AreChoices ns doc i (n + 1) (end_at ns n) ch
   sel-like i _ (sel_at ch a) = (ch, refl, a)
 
-  loop-like : (k i : ℕ) (d : Tree) → LoopAt ns doc n k i d → (p : Cond) × (body : Tree) × (d ≡ loop k p body) × Stands ns doc (n + 1) body
+  loop-like : (k i : ℕ) (d : Tree) → LoopAt ns doc n k i d → (p : Condition) × (body : Tree) × (d ≡ loop k p body) × Stands ns doc (n + 1) body
   loop-like k i _ (loop_at p body q a b) = (p, body, refl, a)
 
 module _ (ns : List Entry) (doc : Recipe) (p : ℕ) where

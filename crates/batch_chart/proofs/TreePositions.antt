@@ -1,7 +1,7 @@
 -- Where trees stand.
 use Rattle.std.proofs.Common.{◌≡◌, ◌≢◌, inl, inr, ◌<◌, ◌≤◌, ℕ, zero, suc, ◌+◌, List, [], ◌∷◌, Some, length, arith, refl, sym, ◌∙◌, subst, ap}
 use Rattle.std.{specs.Prelude.slice_get, proofs.lemmas.Bool.cases_lt, proofs.lemmas.Bool.Decides.eqb_tells}
-use Rattle.batch_recipe.{specs.Nodes.node_count, specs.Nodes.count_of_each, specs.Nodes.count_of_choices, specs.Nodes.count_within, specs.Conditions.Name, specs.Tree.Step, specs.Tree.Phase, specs.Tree.Task, specs.Tree.runs, specs.Tree.follows, specs.Tree.Tree, specs.Tree.act, specs.Tree.skip, specs.Tree.seq, specs.Tree.par, specs.Tree.sel, specs.Tree.loop, specs.Tree.Trees, specs.Tree.no_trees, specs.Tree.tree, specs.Tree.Choices, specs.Tree.otherwise, specs.Tree.choice, specs.declared.condition.Cond.Cond, specs.declared.entry.Entry.Entry, proofs.NodeSubtrees.some_count, specs.declared.recipe.Recipe.Recipe}
+use Rattle.batch_recipe.{specs.Nodes.node_count, specs.Nodes.count_of_each, specs.Nodes.count_of_choices, specs.Nodes.count_within, specs.Conditions.Name, specs.Tree.Step, specs.Tree.Phase, specs.Tree.Task, specs.Tree.runs, specs.Tree.follows, specs.Tree.Tree, specs.Tree.act, specs.Tree.skip, specs.Tree.seq, specs.Tree.par, specs.Tree.sel, specs.Tree.loop, specs.Tree.Trees, specs.Tree.no_trees, specs.Tree.tree, specs.Tree.Choices, specs.Tree.otherwise, specs.Tree.choice, specs.declared.condition.Condition.Condition, specs.declared.entry.Entry.Entry, proofs.NodeSubtrees.some_count, specs.declared.recipe.Recipe.Recipe}
 use Rattle.batch_chart.specs.{declared.node.Kind.TheVariants.Skip, declared.node.Kind.TheVariants.Act, declared.node.Kind.TheVariants.Seq, declared.node.Kind.TheVariants.Par, declared.node.Kind.TheVariants.Sel, declared.node.Kind.TheVariants.Loop, declared.stage.Stage.Stage, Outlined.end_at, Outlined.kind_at, Outlined.IsCondition, Outlined.IsPhase, Outlined.Stands, Outlined.StandsAct, Outlined.AreStanding, Outlined.AreChoices, Outlined.HasTree, Outlined.HaveTrees, Outlined.HaveChoices}
 use Rattle.batch_chart.specs.declared.node.Kind.TheVariants as kind
 
@@ -60,7 +60,7 @@ module _ (ns : List Entry) (doc : Recipe) where
     sel_at : (ch : Choices) → AreChoices ns doc i (n + 1) (end_at ns n) ch → SelAt n i (sel ch)
 
   pub data LoopAt (n k i : ℕ) : Tree → Type 0 where
-    loop_at : (p : Cond) (body : Tree) → IsCondition doc i p → Stands ns doc (n + 1) body → end_at ns n ≡ n + (1 + node_count body) → LoopAt n k i (loop k p body)
+    loop_at : (p : Condition) (body : Tree) → IsCondition doc i p → Stands ns doc (n + 1) body → end_at ns n ≡ n + (1 + node_count body) → LoopAt n k i (loop k p body)
 
   pub skip-at : (n : ℕ) → kind_at ns n ≡ Skip → (c : Tree) → Stands ns doc n c → SkipAt n c
   skip-at n e (act s (follows name c)) h = let d = h.0.1 in absurd (cc)
@@ -144,7 +144,7 @@ module _ (ns : List Entry) (doc : Recipe) where
     last_at : (c : Tree) → Stands ns doc n c → LastAt n m (otherwise c)
 
   pub data ChoiceAt (i n m : ℕ) : Choices → Type 0 where
-    choice_at : (p : Cond) (c : Tree) (ch : Choices) → IsCondition doc i p → Stands ns doc n c → AreChoices ns doc (i + 1) (end_at ns n) m ch → end_at ns n ≡ n + node_count c → end_at ns n < m → ChoiceAt i n m (choice p c ch)
+    choice_at : (p : Condition) (c : Tree) (ch : Choices) → IsCondition doc i p → Stands ns doc n c → AreChoices ns doc (i + 1) (end_at ns n) m ch → end_at ns n ≡ n + node_count c → end_at ns n < m → ChoiceAt i n m (choice p c ch)
 
   pub last-at : (i n m : ℕ) → end_at ns n ≡ m → (ch : Choices) → AreChoices ns doc i n m ch → LastAt n m ch
   last-at i n m e (otherwise c) h = last_at c h.0
@@ -161,7 +161,7 @@ module _ (ns : List Entry) (doc : Recipe) where
   -- the first branch, whichever it is
   pub data BranchAt (n m : ℕ) : Choices → Type 0 where
     only_at : (c : Tree) → Stands ns doc n c → end_at ns n ≡ m → BranchAt n m (otherwise c)
-    more_at : (p : Cond) (c : Tree) (ch : Choices) → Stands ns doc n c → end_at ns n < m → BranchAt n m (choice p c ch)
+    more_at : (p : Condition) (c : Tree) (ch : Choices) → Stands ns doc n c → end_at ns n < m → BranchAt n m (choice p c ch)
 
   pub branch-at : (i n m : ℕ) (ch : Choices) → AreChoices ns doc i n m ch → BranchAt n m ch
   branch-at i n m (otherwise c) h = only_at c h.0 ((stood n c h.0).end ∙ h.1)

@@ -1,7 +1,7 @@
 -- Where the tree at p alone has gone on, and is as finished as before, all trees above it have gone on as well.
 use Rattle.std.proofs.Common.{◌≡◌, inl, inr, ℕ, zero, suc, ◌+◌, List, Bool, true, false, Some, None, refl, sym, ◌∙◌, subst, ap, ap₂}
 use Rattle.std.{specs.Prelude.Option, proofs.lemmas.Bool.Decides.eqb_tells}
-use Rattle.batch_recipe.specs.{Conditions.Name, Conditions.ValueList, declared.condition.Cond.Cond, Nodes.node_count, Nodes.count_of_each, Nodes.count_of_choices, Tree.Step, Tree.runs, Tree.follows, Tree.Tree, Tree.act, Tree.skip, Tree.seq, Tree.par, Tree.sel, Tree.loop, Tree.Trees, Tree.no_trees, Tree.tree, Tree.Choices, Tree.otherwise, Tree.choice, declared.entry.Entry.Entry, declared.recipe.Recipe.Recipe}
+use Rattle.batch_recipe.specs.{Conditions.Name, Conditions.ValueList, declared.condition.Condition.Condition, Nodes.node_count, Nodes.count_of_each, Nodes.count_of_choices, Tree.Step, Tree.runs, Tree.follows, Tree.Tree, Tree.act, Tree.skip, Tree.seq, Tree.par, Tree.sel, Tree.loop, Tree.Trees, Tree.no_trees, Tree.tree, Tree.Choices, Tree.otherwise, Tree.choice, declared.entry.Entry.Entry, declared.recipe.Recipe.Recipe}
 use Rattle.batch_model.specs.{Rest.Rest, Rest.open_act, Rest.in_seq, Rest.in_par, Rest.done, Rest.Rests, Rest.rest, Rest.is_done, Rest.all_done, Rest.joined, Moves.freed, Settled.IsAdvanced, Settled.AreAdvanced}
 use Rattle.batch_chart.{specs.declared.stage.Stage.Stage, specs.declared.stage.Stage.TheVariants.Open, specs.declared.stage.Stage.TheVariants.Freeing, specs.Stages.stage_at, specs.Stages.is_finished, specs.Stages.is_begun, specs.Stages.turns_of, specs.Meaning.meaning, specs.Meaning.meaning_each, specs.Meaning.act_as, specs.Meaning.loop_as, specs.Meaning.meaning_of_branch, specs.Meaning.chosen, specs.Meaning.AgreeOutside, specs.Outlined.end_at, specs.Outlined.Stands, specs.Outlined.AreStanding, specs.Outlined.AreChoices, proofs.TreeAdvance.advance-phase, proofs.TreeLikeness.Apart, proofs.TreeLikeness.next-apart, proofs.TreeLikeness.after-apart, proofs.TreeLikeness.same-stage, proofs.TreeLikeness.same-status, proofs.CalmChanges.turned-still, proofs.KnownTests.chosen-false, specs.ByValues.bare, specs.ByValues.continued_by, specs.ByValues.turned_by, specs.ByValues.reach_first_by, specs.ByValues.advance_by, specs.ByValues.advance_each_by}
 
@@ -21,7 +21,7 @@ module _ (vs : ValueList) where
   went-par : (rs qs : Rests) → (AreAdvanced rs → rs ≡ advance_each_by vs qs) → Went vs (in_par rs) (in_par qs)
   went-par rs qs f h = sym (chosen-false (all_done rs) done (in_par rs) h.0) ∙ ap joined (f h.1)
 
-  went-loop : (o e : Option ℕ) (p : Cond) (body : Tree) (r q : Rest) → e ≡ o → Went vs r q → Went vs (loop_as e p body r) (loop_as o p body q)
+  went-loop : (o e : Option ℕ) (p : Condition) (body : Tree) (r q : Rest) → e ≡ o → Went vs r q → Went vs (loop_as e p body r) (loop_as o p body q)
   went-loop o e p body r q s f = subst (λ z. Went vs (loop_as z p body r) (loop_as o p body q)) (sym s) (go o)
     where
       go : (o : Option ℕ) → Went vs (loop_as o p body r) (loop_as o p body q)

@@ -2,7 +2,7 @@
 use Rattle.std.specs.Prelude.{ℕ, []}
 use Rattle.batch_recipe.specs.Conditions.{ValueList}
 use Rattle.batch_recipe.specs.Tree.{Tree, Trees, Choices}
-use Rattle.batch_recipe.specs.declared.condition.Cond.{Cond}
+use Rattle.batch_recipe.specs.declared.condition.Condition.{Condition}
 use Rattle.batch_model.specs.Rest.{Moment, Rest, Rests, reach, reach_first, reach_each, reach_chosen, continued, turned, advance, advance_each}
 use Rattle.batch_model.specs.Moves.{begun}
 
@@ -25,7 +25,7 @@ reach_chosen_by vs ch = reach_chosen (bare vs) ch
 abbrev pub continued_by : ValueList → Rest → Trees → Rest
 continued_by vs r ts = continued (bare vs) r ts
 
-abbrev pub turned_by : ValueList → ℕ → Cond → Tree → Rest → Rest
+abbrev pub turned_by : ValueList → ℕ → Condition → Tree → Rest → Rest
 turned_by vs k p body r = turned (bare vs) k p body r
 
 abbrev pub advance_by : ValueList → Rest → Rest

@@ -2,7 +2,7 @@
 ghost use Rattle.std.specs.Prelude.{◌≡◌, ◌<◌, ℕ, Some, length};
 ghost use Rattle.std.specs.VecDeque.{deque_capacity};
 ghost use Rattle.batch_matrix.specs.Matrix.{after_report};
-ghost use Rattle.batch_matrix.specs.declared.report.PhaseEnd.{PhaseEnd};
+ghost use Rattle.batch_matrix.specs.declared.report.ReportOutcome.{ReportOutcome};
 ghost use Rattle.batch_matrix.specs.declared.state.State.{State};
 ghost use Rattle.batch_chart.specs.Early.{AreNodes, IsMovedOn, IsReportedOn, IsTakenAt, IsTakenBy, first_held, held_after, is_early, is_ready, still_held};
 ghost use Rattle.batch_chart.specs.Nexts.{IsInOrder};
@@ -129,7 +129,7 @@ impl ControlRecipe<'_> {
         report: Report,
     )
         requires order { IsInOrder self.now.nodes.now self.now.master.now stages.old signs.old }
-        requires accepts { (x : State) × (e : PhaseEnd) × IsLiveIn self.now.nodes.now stages.old node x × (after_report x report ≡ Some e) }
+        requires accepts { (x : State) × (e : ReportOutcome) × IsLiveIn self.now.nodes.now stages.old node x × (after_report x report ≡ Some e) }
         requires nodes { AreNodes self.now.nodes.now held.now.items }
         ensures { IsReportedOn self.now.nodes.now self.now.master.now self.now.values.now node report held.now.items stages.old stages.new signs.old signs.new }
     {

@@ -27,8 +27,8 @@ use Rattle.batch_cli.specs.declared.command.Subcommand.{Subcommand}
 use Rattle.batch_cli.specs.declared.command.Subcommand.TheVariants.{Judge, Serve, ServeDesks, Status, Audit, Plant, Explain, Keep, Write, Remark, Picture}
 use Rattle.batch_cli.specs.declared.command.Judgement as judgements
 use Rattle.batch_cli.specs.declared.command.Judgement.TheVariants.{Check, Draw, Verify, Show}
-use Rattle.batch_cli.specs.declared.command.Source as sources
-use Rattle.batch_cli.specs.declared.command.Source.TheVariants.{Demo, Documents}
+use Rattle.batch_cli.specs.declared.command.SetSource as sources
+use Rattle.batch_cli.specs.declared.command.SetSource.TheVariants.{Demo, Documents}
 use Rattle.batch_cli.specs.declared.command.CommandWords.{CommandWords}
 use Rattle.batch_cli.specs.declared.command.CommandFault.{CommandFault}
 use Rattle.batch_cli.specs.declared.command.CommandFault.TheVariants.{Help, Usage, Memory}
@@ -159,17 +159,17 @@ pub data Judgement : Type 0 where
   show : (cell : Text) (recipes : List Text) → Judgement
 
 -- the source of the set that is to be served, or whose plant is to be run: the demo, or the documents at these paths
-pub data Source : Type 0 where
-  demo : Source
-  documents : (cell certificate : Text) (recipes : List Text) → Source
+pub data SetSource : Type 0 where
+  demo : SetSource
+  documents : (cell certificate : Text) (recipes : List Text) → SetSource
 
 pub data Request : Type 0 where
   judge : Judgement → Request
   -- to write the text of a judgement that accepts into the file at this path
   write : (path : Text) → Judgement → Request
-  serve : Source → Request
+  serve : SetSource → Request
   -- to serve it with comments in the record: the lines, or times, or both
-  remark : (source : Source) (echo times : Bool) → Request
+  remark : (source : SetSource) (echo times : Bool) → Request
   -- to serve the set of the documents at these paths, with a journal in the file at the first one, and with comments in the record or
   -- without them
   keep : (journal cell certificate : Text) (recipes : List Text) (echo times : Bool) → Request
@@ -181,9 +181,9 @@ pub data Request : Type 0 where
   -- to draw its content
   picture : (path : Option Text) → Request
   -- to compare the record at this path with the record that event lines give over a set; a prefix of that may be accepted
-  audit : (beginning : Bool) (path : Text) (source : Source) → Request
+  audit : (beginning : Bool) (path : Text) (source : SetSource) → Request
   -- to run a plant for so many batches, with phases of so many ticks and rings of so many places
-  plant : (source : Source) (batches ticks ring : ℕ) → Request
+  plant : (source : SetSource) (batches ticks ring : ℕ) → Request
   -- to explain the first code in these texts, or without texts to print the meaning of each code
   explain : (texts : List Text) → Request
 
@@ -207,7 +207,7 @@ abbrev pub shown_by : List Row → Request
 shown_by rows = judge (show (word_of (codes "CELL") rows) (words_of (codes "RECIPE") rows))
 
 -- the request to serve, with comments in the record if a flag asks for some
-abbrev pub serve_by : Source → List Row → Request
+abbrev pub serve_by : SetSource → List Row → Request
 serve_by source rows =
     if is_given (codes "echo") rows || is_given (codes "times") rows
     then remark source (is_given (codes "echo") rows) (is_given (codes "times") rows)
@@ -233,7 +233,7 @@ audited_by rows =
     (documents (word_of (codes "CELL") rows) (word_of (codes "CERT") rows) (words_of (codes "RECIPE") rows))
 
 -- the documents of a plant, or the demo's if no cell is given
-abbrev pub plant_source : Option Text → List Row → Source
+abbrev pub plant_source : Option Text → List Row → SetSource
 plant_source None rows = demo
 plant_source (Some cell) rows = documents cell (word_of (codes "CERT") rows) (words_of (codes "RECIPE") rows)
 
@@ -275,7 +275,7 @@ judgement_of (Draw all cell recipes) = draw all (string_bytes cell) (map string_
 judgement_of (Verify cell certificate recipes) = verify (string_bytes cell) (string_bytes certificate) (map string_bytes recipes.items)
 judgement_of (Show cell recipes) = show (string_bytes cell) (map string_bytes recipes.items)
 
-abbrev pub source_of : sources.Source → Source
+abbrev pub source_of : sources.SetSource → SetSource
 source_of Demo = demo
 source_of (Documents cell certificate recipes) = documents (string_bytes cell) (string_bytes certificate) (map string_bytes recipes.items)
 

@@ -26,10 +26,10 @@ pub enum Subcommand {
         judgement: Judgement,
     },
     /// To serve event lines from standard input over a set.
-    Serve(Source),
+    Serve(SetSource),
     /// To serve event lines from standard input over a set, with comments in the record.
     Remark {
-        source: Source,
+        source: SetSource,
         comments: Comments,
     },
     /// To serve event lines from standard input over the set of the documents at these paths, with a journal of them in the file at the
@@ -55,7 +55,7 @@ pub enum Subcommand {
     Audit(AuditWords),
     /// To run the plant of a set: its hub in the calling thread, its console and its link to the units in threads of their own.
     Plant {
-        source: Source,
+        source: SetSource,
         options: PlantOptions,
     },
     /// To explain the first code in these texts, or without texts to print the meaning of each code.
@@ -89,7 +89,7 @@ pub struct AuditWords {
     /// The path of the record.
     pub path: String,
     /// The source of the set.
-    pub source: Source,
+    pub source: SetSource,
 }
 
 /// A judgement of documents, with their paths.
@@ -122,7 +122,7 @@ pub enum Judgement {
 
 /// The source of the set that is to be served, or whose plant is to be run.
 #[derive(Drop)]
-pub enum Source {
+pub enum SetSource {
     /// The documents that are built into the program.
     Demo,
     /// The documents at these paths.

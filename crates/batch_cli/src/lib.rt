@@ -10,7 +10,7 @@ mod table;
 mod words;
 
 pub use command::{
-    AuditWords, CommandFault, CommandWords, DeskWords, Judgement, Source, Subcommand,
+    AuditWords, CommandFault, CommandWords, DeskWords, Judgement, SetSource, Subcommand,
 };
 pub use comments::Comments;
 pub use line::VERSION;

@@ -6,7 +6,7 @@ ghost use Rattle.clap.specs.declared.error.kind.ErrorKind.TheVariants.{MissingRe
 ghost use Rattle.batch_cli.specs.CommandLine.{AreWordsOf, HasOptionsOf, IsFaultOf, IsFaultOfKind, audited_by, certified_by, checked_by, desks_by, is_given, named_by, number_given, program_app, request_of, word_of, words_of, shown_by, judged_by, judgement_of, faults_of, lacks_recipe, plant_source, planted_by, run_by, serve_by, source_of};
 
 use crate::command::{
-    AuditWords, CommandFault, CommandWords, DeskWords, Judgement, Source, Subcommand,
+    AuditWords, CommandFault, CommandWords, DeskWords, Judgement, SetSource, Subcommand,
 };
 use crate::comments::Comments;
 use crate::line::program;
@@ -84,7 +84,7 @@ fn words_of(alloc: Global, matches: &ArgMatches<'_>) -> Result<CommandWords, All
     let Some((name, words)) = matches.subcommand() else {
         return Ok(CommandWords {
             quiet: false,
-            command: Subcommand::Serve(Source::Demo),
+            command: Subcommand::Serve(SetSource::Demo),
         });
     };
     Ok(CommandWords {
@@ -122,7 +122,7 @@ fn audit_command(alloc: Global, words: &ArgMatches<'_>) -> Result<Subcommand, Al
     Ok(Subcommand::Audit(AuditWords {
         beginning: flag(words, "beginning"),
         path: word(alloc, words, "RECORD")?,
-        source: Source::Documents {
+        source: SetSource::Documents {
             cell: word(alloc, words, "CELL")?,
             certificate: word(alloc, words, "CERT")?,
             recipes: several(alloc, words, "RECIPE")?,
@@ -206,7 +206,7 @@ fn certified_command(
         },
         None => serve_command(
             words,
-            Source::Documents {
+            SetSource::Documents {
                 cell,
                 certificate,
                 recipes,
@@ -216,7 +216,7 @@ fn certified_command(
 }
 
 /// `run` without a journal, with comments in the record or without them.
-fn serve_command(words: &ArgMatches<'_>, source: Source) -> Subcommand
+fn serve_command(words: &ArgMatches<'_>, source: SetSource) -> Subcommand
     ensures { request_of result ≡ serve_by (source_of source) (rows_of (found_of words.now)) }
 {
     let comments = comments_of(words);
@@ -248,13 +248,13 @@ fn plant_command(alloc: Global, words: &ArgMatches<'_>) -> Result<Subcommand, Al
 }
 
 /// The documents of a plant, or the demo's if no cell is given.
-fn plant_source(alloc: Global, words: &ArgMatches<'_>) -> Result<Source, AllocError>
+fn plant_source(alloc: Global, words: &ArgMatches<'_>) -> Result<SetSource, AllocError>
     ensures { IfOk result (λ source. source_of source ≡ plant_source (first_of (codes "CELL") (rows_of (found_of words.now))) (rows_of (found_of words.now))) }
 {
     let Some(cell) = optional(alloc, words, "CELL")? else {
-        return Ok(Source::Demo);
+        return Ok(SetSource::Demo);
     };
-    Ok(Source::Documents {
+    Ok(SetSource::Documents {
         cell,
         certificate: word(alloc, words, "CERT")?,
         recipes: several(alloc, words, "RECIPE")?,

@@ -6,7 +6,7 @@ ghost use Rattle.batch_desk.specs.declared.batch_plan.BatchPlan as planned;
 ghost use Rattle.batch_desk.specs.declared.step.Step.TheVariants.{Start as ToStart};
 
 use crate::batch_plan::BatchPlan;
-use crate::desk::Desk;
+use crate::desk::PortDesk;
 use crate::step::Step;
 use batch_engine::{Event, Line, Out, Reply};
 use batch_matrix::{Command, State};
@@ -72,7 +72,7 @@ impl Console {
     }
 
     /// Sends the start of a batch, if there is a place for it.
-    fn start(&mut self, desk: &mut Desk, batch: u64)
+    fn start(&mut self, desk: &mut PortDesk, batch: u64)
         requires { self.old.step ≡ ToStart batch }
         ensures goes { (plan : planned.BatchPlan) → GoesOn plan self.old desk.old self.new desk.new }
         ensures tries { IsTried self.old desk.old self.new desk.new }
@@ -85,7 +85,7 @@ impl Console {
     }
 
     /// Sends a create by this copy of a plan, if there is a place for it.
-    fn create(&mut self, desk: &mut Desk, copy: BatchPlan)
+    fn create(&mut self, desk: &mut PortDesk, copy: BatchPlan)
         requires { 0 < self.old.to_create }
         ensures goes { (plan : planned.BatchPlan) → IsSamePlan plan copy → GoesOn plan self.old desk.old self.new desk.new }
         ensures tries { IsTried self.old desk.old self.new desk.new }
@@ -109,7 +109,7 @@ impl Console {
     }
 
     /// Sends the next event, if there are memory and a place for it.
-    fn act(&mut self, alloc: Global, desk: &mut Desk, plan: &BatchPlan)
+    fn act(&mut self, alloc: Global, desk: &mut PortDesk, plan: &BatchPlan)
         ensures goes { GoesOn plan.now self.old desk.old self.new desk.new }
         // claim: tried again
         ensures tries { IsTried self.old desk.old self.new desk.new }
@@ -128,7 +128,7 @@ impl Console {
     }
 
     /// One turn: takes an out, if one is there, and sends the next event.
-    pub(crate) fn take_turn(&mut self, alloc: Global, desk: &mut Desk, plan: &BatchPlan)
+    pub(crate) fn take_turn(&mut self, alloc: Global, desk: &mut PortDesk, plan: &BatchPlan)
         ensures { GoesOn plan.now self.old desk.old self.new desk.new }
     {
         if let Some(out) = desk.pop_out() {

@@ -6,7 +6,7 @@ ghost use Rattle.batch_desk.specs.declared.loop_end.LoopEnd.TheVariants.{Done, R
 
 use crate::batch_plan::BatchPlan;
 use crate::console::Console;
-use crate::desk::Desk;
+use crate::desk::PortDesk;
 use crate::gate::Gate;
 use crate::loop_end::LoopEnd;
 use std::alloc::Global;
@@ -21,7 +21,7 @@ use std::alloc::Global;
 // claim: end of a console's loop (end, refused, turns)
 pub fn console_loop<G: Gate>(
     alloc: Global,
-    desk: &mut Desk,
+    desk: &mut PortDesk,
     plan: &BatchPlan,
     batches: u64,
     gate: &mut G,

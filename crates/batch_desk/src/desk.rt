@@ -12,7 +12,7 @@ use std::marker::Model;
 /// The desk of a port: it sends events to the hub and takes outs from it. It may move to a thread of its own; none of its
 /// calls waits for the hub, or takes memory.
 #[derive(Drop)]
-pub struct Desk {
+pub struct PortDesk {
     events: Producer<Event>,
     outs: Consumer<Out>,
 }
@@ -21,7 +21,7 @@ pub struct Desk {
 #[derive(Drop)]
 pub struct Full(pub Event);
 
-impl Model for Desk {
+impl Model for PortDesk {
     ghost use Rattle.rtrb.specs.Ring.{sent, received, known_free};
     ghost use Rattle.batch_desk.specs.Rings.{ring_of_producer, ring_of_consumer};
     ghost use Rattle.batch_desk.specs.DeskState.{DeskState};
@@ -31,11 +31,11 @@ impl Model for Desk {
     ghost view = { λ d. record { events = ring_of_producer d.events; outs = ring_of_consumer d.outs; sent = sent d.events; taken = received d.outs; free = known_free d.events } };
 }
 
-impl Desk {
-    pub(crate) fn new(events: Producer<Event>, outs: Consumer<Out>) -> Desk
+impl PortDesk {
+    pub(crate) fn new(events: Producer<Event>, outs: Consumer<Out>) -> PortDesk
         ensures { result ≡ record { events = ring_of_producer events; outs = ring_of_consumer outs; sent = sent events; taken = received outs; free = known_free events } }
     {
-        Desk { events, outs }
+        PortDesk { events, outs }
     }
 
     /// Sends an event to the hub. If there is no place in the ring, the event is returned.
@@ -67,7 +67,7 @@ impl Desk {
         ensures token { IfSome result.0 (λ token. (all_sent token ≡ self.sent) × IsOfRing token self.events) }
         ensures inbox { IsLeftOf self result.1 }
     {
-        let Desk { events, outs } = self;
+        let PortDesk { events, outs } = self;
         (events.finish(), Inbox::new(outs))
     }
 }

@@ -23,7 +23,7 @@ mod turning;
 
 pub use batch_plan::BatchPlan;
 pub use console_turns::console_loop;
-pub use desk::{Desk, Full};
+pub use desk::{Full, PortDesk};
 pub use fault::HubFault;
 pub use gate::Gate;
 pub use hub::Hub;

@@ -7,7 +7,7 @@ ghost use Rattle.batch_desk.specs.Plans.{AreOfPlans, ArePlansWithin, RefusesNew,
 ghost use Rattle.batch_desk.specs.PortState.{IsNewPort, port_rings};
 ghost use Rattle.batch_desk.specs.declared.fault.HubFault.TheVariants.{Memory};
 
-use crate::desk::Desk;
+use crate::desk::PortDesk;
 use crate::fault::HubFault;
 use crate::hub::Hub;
 use crate::plan::PortPlan;
@@ -27,18 +27,18 @@ fn are_within(plans: &[PortPlan]) -> bool
 }
 
 /// Makes the two rings of a port.
-fn open_port(alloc: Global, plan: PortPlan) -> Result<(Port, Desk), AllocError>
+fn open_port(alloc: Global, plan: PortPlan) -> Result<(Port, PortDesk), AllocError>
     ensures made { IfOk result (λ r. IsNewPort r.0 × IsNewDesk r.1 × (port_rings r.0 ≡ desk_rings r.1) × (port_made r.0 ≡ port_planned plan) × (r.1.free ≡ plan.event_places)) }
     ensures sizes { IfOk result (λ r. sizes_made r.0 ≡ sizes_planned plan) }
 {
     let (sends, events) = RingBuffer::new(alloc, plan.event_places)?;
     let (outs, takes) = RingBuffer::new(alloc, plan.out_places)?;
     let port = Port::new(alloc, plan.scope, events, outs);
-    Ok((port, Desk::new(sends, takes)))
+    Ok((port, PortDesk::new(sends, takes)))
 }
 
 /// Makes the ports, and the desk of each at the port's place.
-fn open_ports(alloc: Global, plans: &[PortPlan]) -> Result<(Vec<Port>, Vec<Desk>), HubFault>
+fn open_ports(alloc: Global, plans: &[PortPlan]) -> Result<(Vec<Port>, Vec<PortDesk>), HubFault>
     ensures made { IfOk result (λ r. AreOfPlans plans.now r.0.items r.1.items) }
     ensures fault { IfErr result (λ fault. fault ≡ Memory) }
 {
@@ -65,7 +65,7 @@ impl Hub {
         alloc: Global,
         engine: Engine,
         plans: &[PortPlan],
-    ) -> Result<(Hub, Vec<Desk>), (HubFault, Engine)>
+    ) -> Result<(Hub, Vec<PortDesk>), (HubFault, Engine)>
         requires { plant_of engine ≡ opening }
         ensures hub { IfOk result (λ r. (r.0.engine ≡ engine) × (r.0.history ≡ []) × (r.0.outs ≡ [])) }
         ensures ports { IfOk result (λ r. AreOfPlans plans.now r.0.ports r.1.items) }

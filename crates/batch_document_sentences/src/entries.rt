@@ -7,7 +7,7 @@ use crate::lines::line_of;
 use crate::names_declared::{duplicate, undeclared};
 use crate::needs::{need_out_of_limit, unreadable_need};
 use batch_reader::{EntryFault, Key, Spot, TableKind, is_chart_word, keys_of, may_stand};
-use batch_recipe::{MAX_NODES, MAX_UNITS};
+use batch_recipe::{MAX_NEED_UNITS, MAX_NODES};
 use batch_wording::meant_said;
 use std::alloc::{AllocError, Global};
 use toml::{Table, Value};
@@ -302,7 +302,9 @@ fn out_of_limit(
     if let Some(need) = need_out_of_limit(table) {
         return Wrong::with(
             "needs",
-            format!(in alloc; "`{need}` is out of its limits: a need is of 1 to {MAX_UNITS} units"),
+            format!(in alloc;
+                "`{need}` is out of its limits: a need is of 1 to {MAX_NEED_UNITS} units"
+            ),
         );
     }
     let least = table.get("min").and_then(Value::as_integer);

@@ -1,6 +1,6 @@
 //! The faults in the needs of a table.
 use crate::declared::list_at;
-use batch_recipe::MAX_UNITS;
+use batch_recipe::MAX_NEED_UNITS;
 use batch_text::is_name;
 use toml::Table;
 
@@ -39,7 +39,7 @@ fn is_need(text: &str) -> bool {
 fn has_few_units(text: &str) -> bool {
     match text.split_once('*') {
         Some((_, units)) => match units.parse::<u32>() {
-            Ok(units) => 1 <= units && units <= MAX_UNITS,
+            Ok(units) => 1 <= units && units <= MAX_NEED_UNITS,
             Err(_) => false,
         },
         None => true,

@@ -1,7 +1,7 @@
 -- Events: which batches stay as they are, how many there are, and whom the plant serves after them.
 use Rattle.std.proofs.Common.{◌≡◌, ⊎_elim, refl, sym, ◌∙◌, ap, subst, ℕ, ◌<◌, ◌≤◌, ◌||◌, List, [], ◌∷◌, ◌++◌, Bool, true, false, not, map, find, Option, Some, None, inl, inr, length, nat_eq, nat_lt, arith}
 use Rattle.std.{specs.Prelude.nat_le, proofs.lemmas.List.length-append, proofs.lemmas.List.length-map}
-use Rattle.batch_matrix.specs.{declared.state.State.TheVariants.Idle, declared.command.Command.Command, declared.report.Report.Report, declared.report.PhaseEnd.PhaseEnd, Matrix.same_state, Matrix.accepts, Matrix.target, Matrix.after_report}
+use Rattle.batch_matrix.specs.{declared.state.State.TheVariants.Idle, declared.command.Command.Command, declared.report.Report.Report, declared.report.ReportOutcome.ReportOutcome, Matrix.same_state, Matrix.accepts, Matrix.target, Matrix.after_report}
 use Rattle.batch_recipe.specs.{Conditions.Name, Conditions.ValueList, Conditions.same_name, Values.are_outputs, Values.left_out}
 use Rattle.batch_model.{specs.Lists.Has, specs.Plant.Formula, specs.Plant.size_out_of_range, specs.Plant.value_out_of_range, specs.Plant.scaled, specs.Plant.Recipe, specs.Plant.Master, specs.Plant.Setup, specs.Plant.Batch, specs.Plant.Share, specs.Plant.Plant, specs.Plant.opening, specs.Plant.batch_at, specs.Plant.in_batch, specs.Moves.Move, specs.Moves.next, specs.Moves.after_move, specs.Moves.batch_of, specs.Moves.batch_after, specs.Moves.batch_moves, specs.Events.Event, specs.Events.create, specs.Events.order, specs.Events.remove, specs.Events.report, specs.Events.Reply, specs.Events.ordered, specs.Events.removed, specs.Events.refused, specs.Events.unknown_recipe, specs.Events.unknown_batch, specs.Events.command_not_accepted, specs.Events.no_live_phase, specs.Events.report_not_expected, specs.Events.bad_output, specs.Events.output_left_out, specs.Events.owed, specs.Events.accepting, specs.Events.bad_binding, specs.Events.full, specs.Events.not_idle, specs.Events.moves_pending, specs.Events.Answer, specs.Events.is_full, specs.Events.new_batch, specs.Events.creating, specs.Events.creating_for, specs.Events.binding, specs.Events.is_binding, specs.Events.bound_by, specs.Events.roles_told, specs.Events.commanded, specs.Events.lines_under, specs.Events.ordering, specs.Events.without_batch, specs.Events.removing, specs.Events.LivePhase, specs.Events.live_phase, specs.Events.outputs_of, specs.Events.batch_reported, specs.Events.reporting, specs.Events.judged, specs.Events.react, specs.Runs.Out, specs.Runs.reply, specs.Runs.move, specs.Runs.Reacts, specs.Runs.Leads, specs.Records.waiters_after, specs.declared.limits.TheConstants.LAST_NUMBER, proofs.Members.Has-split}
 use Rattle.batch_step_laws.proofs.{LastLineEffect.waiters_told-last, PlantAfterEvent.commanded-number}
@@ -87,7 +87,7 @@ module _ (c : Setup) (s : Plant) where
   reporting-leaves : (unit name : Name) (word : Report) (outputs : ValueList) (l : LivePhase) → Leaves c s (reporting s unit name word outputs l)
   reporting-leaves unit name word outputs l = go (after_report l.state word)
     where
-      accepted : (e : PhaseEnd) (o : Option Name) → Leaves c s (accepting s unit name word outputs l e o)
+      accepted : (e : ReportOutcome) (o : Option Name) → Leaves c s (accepting s unit name word outputs l e o)
       accepted e (Some output) = same (refused (output_left_out output))
       accepted e None =
           record {
@@ -95,12 +95,12 @@ module _ (c : Setup) (s : Plant) where
             others = λ d h other. Has-other l.batch.number (batch_reported word outputs l.place e) s.batches d (λ b. refl) h (λ q. other (ap Some (sym q)));
           }
 
-      taken : (e : PhaseEnd) (t : Bool) → Leaves c s
+      taken : (e : ReportOutcome) (t : Bool) → Leaves c s
           (elim t [ false ↦ (refused bad_output, s) | true ↦ accepting s unit name word outputs l e (left_out (owed l.state word l.phase.reports) outputs) ])
       taken e false = same (refused bad_output)
       taken e true = accepted e (left_out (owed l.state word l.phase.reports) outputs)
 
-      go : (o : Option PhaseEnd) → Leaves c s
+      go : (o : Option ReportOutcome) → Leaves c s
           (elim o [
             | None ↦ (refused (report_not_expected l.state), s)
             | Some e ↦

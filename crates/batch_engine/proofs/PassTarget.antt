@@ -3,7 +3,7 @@ use Rattle.std.proofs.Common.{arith, ◌≡◌, refl, sym, ◌∙◌, ap, ap₂,
 use Rattle.std.specs.{Prelude.⊤, Prelude.◌&&◌, Prelude.◌||◌, Prelude.slice_get, Prelude.option_and_then, List.list_any}
 use Rattle.batch_matrix.specs.{declared.command.Command.Command, declared.state.State.State, Matrix.accepts}
 use Rattle.batch_recipe.specs.{Conditions.Name, Conditions.same_name, declared.need.Need.Need, Following.follower, Tree.Place, Tree.Reserve, Tree.Step, Tree.Task, Tree.runs, Tree.follows}
-use Rattle.batch_model.{specs.ActStates.steps, specs.Cleared.Ranking, specs.Lists.Has, specs.Lists.Each, specs.Moves.Move, specs.Moves.send, specs.Moves.state, specs.Moves.release, specs.Moves.pass, specs.Moves.end, specs.Moves.ask, specs.Moves.grant, specs.Moves.is_running, specs.Moves.is_stopping, specs.Moves.is_stopped, specs.Moves.is_quiet, specs.Moves.is_empty, specs.Moves.is_served, specs.Moves.passed_on, specs.Moves.beginning, specs.Moves.entering, specs.Moves.giving_back, specs.Moves.reserved_place, specs.Moves.handing_over, specs.Moves.when, specs.Moves.act_move, specs.Moves.batch_moves, specs.Moves.released, specs.Plant.Setup, specs.Plant.BatchAct, specs.Plant.InAdvance, specs.Plant.Batch, specs.Plant.Share, specs.Plant.Plant, specs.Plant.held_in, specs.Plant.is_act_reached, specs.Plant.units_in, specs.Plant.without, specs.Records.holders_after, specs.Records.holders_told, specs.Rest.Rest, specs.Rest.Rests, specs.Rest.ready, specs.Rest.asking, specs.Rest.open_act, specs.Rest.live, specs.Rest.freeing, specs.Rest.in_seq, specs.Rest.in_par, specs.Rest.in_loop, specs.Rest.done, specs.Rest.no_rests, specs.Rest.rest, specs.Rest.is_done, specs.Rest.acts, specs.Rest.acts_of_each, specs.Rest.changed_at, specs.Rest.place_of, specs.Rest.same_place, specs.Runs.Out, specs.Runs.move, specs.Standing.IsAwaited, specs.Standing.IsStanding, specs.Standing.IsStandingBatch, proofs.Members.Each-Has, proofs.Members.Has-left, proofs.Members.Has-right, proofs.Members.Has-split}
+use Rattle.batch_model.{specs.ActStates.steps, specs.Cleared.Ranking, specs.Lists.Has, specs.Lists.Each, specs.Moves.Move, specs.Moves.send, specs.Moves.state, specs.Moves.release, specs.Moves.pass, specs.Moves.end, specs.Moves.ask, specs.Moves.grant, specs.Moves.is_running, specs.Moves.is_stopping, specs.Moves.is_stopped, specs.Moves.is_quiet, specs.Moves.is_empty, specs.Moves.is_served, specs.Moves.command_passed_on, specs.Moves.beginning, specs.Moves.entering, specs.Moves.giving_back, specs.Moves.reserved_place, specs.Moves.handing_over, specs.Moves.when, specs.Moves.act_move, specs.Moves.batch_moves, specs.Moves.released, specs.Plant.Setup, specs.Plant.BatchAct, specs.Plant.InAdvance, specs.Plant.Batch, specs.Plant.Share, specs.Plant.Plant, specs.Plant.held_in, specs.Plant.is_act_reached, specs.Plant.units_in, specs.Plant.without, specs.Records.holders_after, specs.Records.holders_told, specs.Rest.Rest, specs.Rest.Rests, specs.Rest.ready, specs.Rest.asking, specs.Rest.open_act, specs.Rest.live, specs.Rest.freeing, specs.Rest.in_seq, specs.Rest.in_par, specs.Rest.in_loop, specs.Rest.done, specs.Rest.no_rests, specs.Rest.rest, specs.Rest.is_done, specs.Rest.acts, specs.Rest.acts_of_each, specs.Rest.changed_at, specs.Rest.place_of, specs.Rest.same_place, specs.Runs.Out, specs.Runs.move, specs.Standing.IsAwaited, specs.Standing.IsStanding, specs.Standing.IsStandingBatch, proofs.Members.Each-Has, proofs.Members.Has-left, proofs.Members.Has-right, proofs.Members.Has-split}
 use Rattle.batch_step_laws.proofs.{WorkAfterChange.to_same_place, WorkAfterMove.Has-batch_moves, WorkAfterMove.batch_moves-number, DueUnitProcedures.follower-due}
 use Rattle.batch_record_laws.proofs.{ActChanges.IsChange, ActChanges.Becomes, ActChanges.also, ActChanges.nothing, DuePlaces.awaited-nowhere, Batches.of-entry, Entries.holders-Has, Entries.name_same, Entries.nat_same, Entries.sums-without_once, Entries.units-append, Entries.units-one, PlantFacts.Standing, PlantFacts.entries, PlantFacts.facts, PlantFacts.facts_of_each, PlantFacts.held_at, PlantFacts.holding, Invariant.IsFirstNeed, Invariant.IsKept, Invariant.IsSound, Invariant.standing-of, InvariantAfterChange.not-held-yet, ActMoves.freed-facts, ActMoves.no_move, ActMoves.some_move, ActMoves.held-next, BatchProgress.act-step_in, HoldingsInAdvance.Nowhere, HoldingsInAdvance.places, HoldingsInAdvance.reached-at, UnitProcedures.find-passes}
 
@@ -89,7 +89,7 @@ module _ (b : Batch) where
       go true false f = absurd (no_move m f)
       go false true f = made-when (is_done r) (end b.number p.place) m (open_act p r) tt f
       go false false f = made-when (is_done r) (end b.number p.place) m (open_act p r) tt f
-  passed-by c s (live p y t) m e = go (passed_on b.state) e
+  passed-by c s (live p y t) m e = go (command_passed_on b.state) e
     where
       go : (o : Option Command) → ◌≡◌ {A = Option Move} (elim o [ None ↦ None | Some x ↦ when (accepts t x) (send b.number p.place y x) ]) (Some m) → IsPassedBy b (live p y t) m
       go None f = absurd (no_move m f)

@@ -1,7 +1,7 @@
 -- The answers to a report of a live phase.
 use Rattle.std.proofs.Common.{◌≡◌, ◌≢◌, ◌<◌, refl, sym, ◌∙◌, ap, ap₂, subst, ℕ, zero, suc, List, [], ◌∷◌, Bool, true, false, ◌&&◌, Option, Some, None, inl, arith, get_or, map, set}
 use Rattle.std.{specs.Prelude.length, specs.Prelude.not, specs.Prelude.position, specs.Prelude.slice_get, specs.Prelude.unwrap_or, proofs.lemmas.Option.slice_get-get_or, specs.Option.option_or}
-use Rattle.batch_matrix.specs.{declared.state.State.State, declared.report.Report.Report, declared.report.PhaseEnd.PhaseEnd, Matrix.after_report, Matrix.same_report}
+use Rattle.batch_matrix.specs.{declared.state.State.State, declared.report.Report.Report, declared.report.ReportOutcome.ReportOutcome, Matrix.after_report, Matrix.same_report}
 use Rattle.batch_recipe.{specs.Conditions.Name, specs.Conditions.ValueList, specs.Nodes.Node, specs.Nodes.reports_of, specs.Values.are_outputs, specs.Values.have_output, specs.Values.left_out, specs.Values.with_values, proofs.FirstMatch.find-nowhere, proofs.FirstMatch.find-position}
 use Rattle.batch_recipe.specs.declared.recipe.Recipe as document
 use Rattle.batch_model.specs.{Rest.acts, Plant.Master, Plant.Share, Plant.Plant, Plant.in_act, Plant.in_batch, Moves.Move, Moves.is_stopping, Moves.next, Events.refused, Events.moves_pending, Events.no_live_phase, Events.report_not_expected, Events.bad_output, Events.owed, Events.accepting, Events.reported, Events.reporting, Events.live_in, Events.live_phase, Events.phase_after, Events.batch_state_after, Events.outputs_of, Events.batch_reported, Events.judged, Events.react, Events.Answer, Runs.Reacts}
@@ -68,7 +68,7 @@ owed-left_out x word names outputs i e = go (same_report word Report.Done && not
 -- The answer to a report that the phase's state expects
 
 module _ {v : EngineView} {unit name : Name} {l : LivePhase} {b : Batch} {x : document.Recipe} (j : IsReporting v unit name l b x) (word : Report) (outputs : ValueList)
-    (settled : next (setup v.cleared) (plant_of v) ≡ None) (alone : word ≢ Report.Done → length outputs ≡ 0) (end : PhaseEnd) (ends : after_report l.state word ≡ Some end) where
+    (settled : next (setup v.cleared) (plant_of v) ≡ None) (alone : word ≢ Report.Done → length outputs ≡ 0) (end : ReportOutcome) (ends : after_report l.state word ≡ Some end) where
   abbrev given : Bool → Option Name → Answer
   given t o = elim t [ false ↦ (refused bad_output, plant_of v) | true ↦ accepting (plant_of v) unit name word outputs (told_of v l b) end o ]
 
@@ -78,7 +78,7 @@ module _ {v : EngineView} {unit name : Name} {l : LivePhase} {b : Batch} {x : do
       ap (λ (m : Option Move). let a : Answer = elim m [ Some l ↦ (refused moves_pending, plant_of v) | None ↦ judged (setup v.cleared) (plant_of v) (Events.report unit name word outputs) ] in a) settled
       ∙ ap₂ (λ (set : ValueList) (o : Option Events.LivePhase). let a : Answer = elim o [ None ↦ (refused no_live_phase, plant_of v) | Some l ↦ reporting (plant_of v) unit name word set l ] in a)
       (outputs-own word outputs alone) j.found
-      ∙ ap (λ (o : Option PhaseEnd). let a : Answer = elim o [
+      ∙ ap (λ (o : Option ReportOutcome). let a : Answer = elim o [
         | None ↦ (refused (report_not_expected l.state), plant_of v)
         | Some e ↦
             elim (are_outputs (recipe_made v.cleared b).outputs outputs) [

@@ -38,7 +38,7 @@ impl Engine {
             return Err((AllocError, cleared));
         };
         let control = Control::new(alloc, cleared)?;
-        control.is_kept();
+        control.recall_invariant();
         Ok(Engine {
             control,
             marks: Marks::new(),
@@ -65,7 +65,7 @@ impl Engine {
             return Reply::Refused(Refusal::MovesPending);
         }
         let reply = self.control.answer_event(event, &self.holders);
-        self.control.is_kept();
+        self.control.recall_invariant();
         mark_answered(&mut self.marks, &self.control, reply);
         reply
     }
@@ -117,7 +117,7 @@ impl Engine {
         let line = self.control.line_of(step);
         note_grant(&mut self.holders, &line);
         self.control.make_step(step, &line);
-        self.control.is_kept();
+        self.control.recall_invariant();
         mark_moved(&mut self.marks, &self.control, step.index(), line.touched());
         Some(line)
     }

@@ -78,7 +78,7 @@ impl Control {
     }
 
     /// States the invariant of this type, and does nothing.
-    pub(crate) fn is_kept(&self)
+    pub(crate) fn recall_invariant(&self)
         ensures { IsKept self.now }
     {
         let _number = self.next_number;
@@ -95,7 +95,7 @@ impl Control {
     pub(crate) fn resources(&self) -> u16
         ensures { result ≡ resource_count self.now.allocation }
     {
-        self.is_kept();
+        self.recall_invariant();
         self.cleared.cell().resources()
     }
 

@@ -25,7 +25,7 @@ fn mark_number(marks: &mut Marks, control: &Control, number: u64)
     ensures set { IsNumberMarked control.now number marks.new }
     ensures kept { KeepsMarks marks.old marks.new }
 {
-    control.is_kept();
+    control.recall_invariant();
     if let Some(index) = control.index_of(number) {
         mark(marks, index);
     }
@@ -37,7 +37,7 @@ fn mark_first(marks: &mut Marks, control: &Control, resource: u16)
     ensures set { IsFirstMarked control.now resource marks.new }
     ensures kept { KeepsMarks marks.old marks.new }
 {
-    control.is_kept();
+    control.recall_invariant();
     if let Some(index) = control.first_served(resource) {
         mark(marks, index);
     }
@@ -79,7 +79,7 @@ pub fn mark_moved(marks: &mut Marks, control: &Control, index: usize, resource: 
     ensures set { AreMoveMarked control.now index resource marks.new }
     ensures kept { (i : ℕ) → index ≤ i → mark_at marks.new i ≡ 0 → mark_at marks.old i ≡ 0 }
 {
-    control.is_kept();
+    control.recall_invariant();
     marks.clear_below(index);
     mark(marks, index);
     if let Some(number) = resource {

@@ -69,7 +69,7 @@ impl Control {
         self.arbiter.withdraw(number, &asks);
         let batch = &mut self.batches[index];
         batch.state = state;
-        batch.running.stop_all();
+        batch.running.withdraw_asks();
     }
 
     /// The procedure of the batch at an index is reached anew.

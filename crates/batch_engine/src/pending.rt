@@ -155,7 +155,7 @@ impl Control {
         requires { AreMarked self.now marks.now }
         ensures { IsFirstStep self.now result }
     {
-        self.is_kept();
+        self.recall_invariant();
         let mut from = 0;
         while let Some(index) = marks.next(from) {
             // The removal of batches can leave a mark past the last one.

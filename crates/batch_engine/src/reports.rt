@@ -82,7 +82,7 @@ impl Control {
         requires { AreHoldingsNoted self.now holders.now }
         ensures { IsLivePhase self.now unit.now phase.now result }
     {
-        self.is_kept();
+        self.recall_invariant();
         let resource = self.cleared.cell().resource_of(unit)?;
         let index = self.index_of(holders[usize::from(resource)])?;
         self.live_in(index, resource, phase)

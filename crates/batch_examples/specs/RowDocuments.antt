@@ -1,7 +1,7 @@
 -- worked rows: the cells and the recipes of the worked rows.
 use Rattle.std.specs.Prelude.{ℕ, map, List, [], ◌∷◌, true, false, ◌||◌, nat_le, codes}
 use Rattle.batch_recipe.specs.Conditions.{Name, ValueList, same_name}
-use Rattle.batch_recipe.specs.declared.condition.Cond.{Cond}
+use Rattle.batch_recipe.specs.declared.condition.Condition.{Condition}
 use Rattle.batch_recipe.specs.declared.condition.Op.TheVariants.{Equal, AtLeast, Greater}
 use Rattle.batch_recipe.specs.declared.condition.Term.TheVariants.{Number}
 use Rattle.batch_recipe.specs.Diagram.{Diagram, label, skip, seq, par, sel, loop, otherwise, when, diagrams_of}
@@ -194,13 +194,13 @@ recipe_q =
     (par (diagrams_of (label (codes "HEATS") ∷ seq (diagrams_of (label drain ∷ label (codes "ADDH") ∷ [])) ∷ []))))
 
 -- the output X is above 0
-abbrev pub x_above_0 : Cond
+abbrev pub x_above_0 : Condition
 x_above_0 = record { name = x_name; op = Greater; term = Number 0 }
 
-abbrev pub x_is_1 : Cond
+abbrev pub x_is_1 : Condition
 x_is_1 = record { name = x_name; op = Equal; term = Number 1 }
 
-abbrev pub x_at_least_2 : Cond
+abbrev pub x_at_least_2 : Condition
 x_at_least_2 = record { name = x_name; op = AtLeast; term = Number 2 }
 
 -- a recipe with the output X

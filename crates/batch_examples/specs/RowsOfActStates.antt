@@ -4,7 +4,7 @@ use Rattle.batch_matrix.specs.declared.state.State.{State}
 use Rattle.batch_matrix.specs.declared.state.State.TheVariants.{Idle, Running, Pausing, Paused, Holding, Held, Restarting, Stopping, Aborting, Complete}
 use Rattle.batch_matrix.specs.declared.command.Command.TheVariants.{Start, Pause, Resume, Hold, Stop, Abort}
 use Rattle.batch_matrix.specs.declared.report.Report.{Report}
-use Rattle.batch_matrix.specs.declared.report.PhaseEnd.TheVariants.{Now}
+use Rattle.batch_matrix.specs.declared.report.ReportOutcome.TheVariants.{Now}
 use Rattle.batch_model.specs.Plant.{Plant, Batch, in_batch, in_act}
 use Rattle.batch_model.specs.Moves.{send, after_move}
 use Rattle.batch_model.specs.Events.{Event, create, order, phase_after, react}

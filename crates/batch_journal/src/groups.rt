@@ -7,7 +7,7 @@ ghost use Rattle.batch_journal.specs.Readers.{HasRecalled, IsGroup, IsJournalKep
 use crate::disk::{Disk, DiskError};
 use crate::group::write_group;
 use crate::lines::{are_whole_lines, has_own};
-use crate::run::Run;
+use crate::run::JournalRun;
 use crate::sum::Sum;
 use std::marker::PhantomData;
 use std::time::Clock;
@@ -16,7 +16,7 @@ use std::time::Clock;
 ///
 /// After a call of the disk failed each further one fails.
 #[derive(Drop)]
-pub struct Groups<D: Disk, K: Clock, C: Run> {
+pub struct Groups<D: Disk, K: Clock, C: JournalRun> {
     pub(crate) disk: D,
     clock: K,
     sum: Sum,
@@ -34,7 +34,7 @@ pub struct Groups<D: Disk, K: Clock, C: Run> {
     ghost stays: { D.is_disk disk → ∥ C.was ∥₁ },
 }
 
-impl<D: Disk, K: Clock, C: Run> Groups<D, K, C> {
+impl<D: Disk, K: Clock, C: JournalRun> Groups<D, K, C> {
     /// The groups of a run over a disk that recovery left, with the sum that it found. The clock's time stands in the closing lines; nothing
     /// is claimed of it.
     pub fn new(disk: D, clock: K, sum: Sum) -> Groups<D, K, C>

@@ -27,5 +27,5 @@ pub use lines::are_whole_lines;
 pub use memory::{Memory, Past};
 pub use reader::JournalReader;
 pub use recovery::{Recovered, RecoveryFault, recover};
-pub use run::Run;
+pub use run::JournalRun;
 pub use sum::Sum;

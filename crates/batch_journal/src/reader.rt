@@ -10,7 +10,7 @@ ghost use Rattle.batch_journal.specs.Windows.{items};
 use crate::disk::Disk;
 use crate::groups::Groups;
 use crate::lines::{end_of, has_own};
-use crate::run::Run;
+use crate::run::JournalRun;
 use crate::sum::Sum;
 use crate::window::Window;
 use std::io;
@@ -22,7 +22,7 @@ use std::time::Clock;
 /// No line of the input may begin with `# sum `, have a zero byte or be longer than the window: there it fails. After a call of the
 /// disk failed each read fails.
 #[derive(Drop)]
-pub struct JournalReader<R: Read, D: Disk, K: Clock, C: Run> {
+pub struct JournalReader<R: Read, D: Disk, K: Clock, C: JournalRun> {
     inner: R,
     groups: Groups<D, K, C>,
     // the lines that are in the journal, and behind them the other bytes read
@@ -33,7 +33,7 @@ pub struct JournalReader<R: Read, D: Disk, K: Clock, C: Run> {
     ghost accounted: { D.is_disk groups.disk → IsAccounted C.input (D.given groups.disk) (prepend_known (items window) (R.remaining inner)) },
 }
 
-impl<R: Read, D: Disk, K: Clock, C: Run> JournalReader<R, D, K, C> {
+impl<R: Read, D: Disk, K: Clock, C: JournalRun> JournalReader<R, D, K, C> {
     /// A reader of the input over a disk that recovery left, with the sum that it found. The clock's time stands in the closing lines;
     /// nothing is claimed of it.
     pub fn new(inner: R, disk: D, clock: K, sum: Sum) -> JournalReader<R, D, K, C>
@@ -71,7 +71,7 @@ impl<R: Read, D: Disk, K: Clock, C: Run> JournalReader<R, D, K, C> {
     }
 }
 
-impl<R: Read, D: Disk, K: Clock, C: Run> Read for JournalReader<R, D, K, C> {
+impl<R: Read, D: Disk, K: Clock, C: JournalRun> Read for JournalReader<R, D, K, C> {
     ghost remaining = { λ r. prepend_known (items r.window) (R.remaining r.inner) };
 
     fn read(&mut self, buf: &mut [u8]) -> io::Result<usize> {
@@ -83,7 +83,7 @@ impl<R: Read, D: Disk, K: Clock, C: Run> Read for JournalReader<R, D, K, C> {
     }
 }
 
-impl<R: Read, D: Disk, K: Clock, C: Run> JournalReader<R, D, K, C> {
+impl<R: Read, D: Disk, K: Clock, C: JournalRun> JournalReader<R, D, K, C> {
     /// Journals the next lines, if none is ready.
     fn fill(&mut self) -> io::Result<()>
         ensures keeps { Keeps (prepend_known (items self.old.window) (R.remaining self.old.inner)) (prepend_known (items self.new.window) (R.remaining self.new.inner)) }

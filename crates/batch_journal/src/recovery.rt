@@ -162,7 +162,7 @@ fn standing_of(bytes: &[u8], documents: &[u8; 64]) -> Result<Option<Taken>, Reco
     if !bytes.starts_with(&header) {
         return unlike(bytes, documents);
     }
-    let taken = take_groups(&bytes[header.len()..], documents);
+    let taken = end_of_groups(&bytes[header.len()..], documents);
     let end = header.len() + taken.end;
     match closing_before_another(&bytes[end..]) {
         Some(before) => Err(RecoveryFault::Damaged(line_count(&bytes[..end]) + before + 1)),
@@ -207,7 +207,7 @@ fn is_like(bytes: &[u8], header: &[u8; 84]) -> bool
 }
 
 /// The end of the whole groups behind a header, up to the first wrong sum, and the sum of the last.
-fn take_groups(bytes: &[u8], documents: &[u8; 64]) -> Taken
+fn end_of_groups(bytes: &[u8], documents: &[u8; 64]) -> Taken
     ensures { AreGroupsTaken documents.now bytes.now result.end (sum_text result.sum) }
 {
     let mut sum = Sum::Documents(*documents);

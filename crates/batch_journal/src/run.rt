@@ -3,7 +3,7 @@
 use std::marker::Brand;
 
 /// A run over a journal, as a type: facts known of it at its start stay known while code runs that knows only of a reader.
-pub trait Run {
+pub trait JournalRun {
     ghost use Rattle.std.specs.Prelude.{ℕ, List, Option};
 
     /// The digits of its documents.
@@ -22,7 +22,7 @@ pub trait Run {
     ghost was: { Type 0 };
 }
 
-impl Run for Brand {
+impl JournalRun for Brand {
     ghost use Rattle.std.specs.Prelude.{[], None, ⊤};
 
     ghost documents = { [] };

@@ -10,7 +10,7 @@ ghost use Rattle.batch_keep.specs.Told.{IsJournalAtRest, IsNeverLost};
 
 use crate::serving::{Journal, serve_at};
 use batch_engine::Engine;
-use batch_journal::{Disk, Run};
+use batch_journal::{Disk, JournalRun};
 use batch_serve::{
     Held, HeldRemarks, NoRemarks, Remarks, ServeFault, Start, transcripts_are_whole,
 };
@@ -77,7 +77,7 @@ pub fn serve_started<
     D: Disk,
     K: Clock + Drop,
     W: Write,
-    C: Run,
+    C: JournalRun,
     M: Remarks<W> + Drop,
 >(
     alloc: Global,
@@ -112,7 +112,7 @@ fn serve_holding_at<
     D: Disk,
     K: Clock + Drop,
     W: Write,
-    C: Run,
+    C: JournalRun,
     S: Start,
     M: Remarks<W> + Drop,
 >(

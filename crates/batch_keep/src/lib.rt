@@ -24,4 +24,4 @@ pub use remarking::serve_started_remarked;
 pub use replaying::replay;
 pub use rows::audit_rows;
 pub use serving::{Journal, serve_in_memory, serve_journalled};
-pub use starting::{StartFault, Started, start, start_desks};
+pub use starting::{RecoveredPlant, StartFault, start, start_desks};

@@ -12,7 +12,7 @@ ghost use Rattle.batch_wire.specs.WrittenTranscript.{WritesTranscript};
 use crate::holding::{KeepFault, serve_started};
 use crate::serving::Journal;
 use batch_engine::Engine;
-use batch_journal::{Disk, Run};
+use batch_journal::{Disk, JournalRun};
 use batch_serve::{Remarked, Remarking, Start};
 use std::alloc::Global;
 use std::io::{Read, Write};
@@ -25,7 +25,7 @@ use std::time::Clock;
 ///
 /// Those of [`serve_started`].
 // claim: comments over a journal
-pub fn serve_started_remarked<R: Read + Drop, D: Disk, K: Clock + Drop, W: Write, C: Run>(
+pub fn serve_started_remarked<R: Read + Drop, D: Disk, K: Clock + Drop, W: Write, C: JournalRun>(
     alloc: Global,
     engine: &mut Engine,
     input: R,
@@ -54,7 +54,7 @@ pub fn serve_started_remarked<R: Read + Drop, D: Disk, K: Clock + Drop, W: Write
     )
 }
 
-fn serve_remarked_at<R: Read + Drop, D: Disk, K: Clock + Drop, W: Write, C: Run, S: Start>(
+fn serve_remarked_at<R: Read + Drop, D: Disk, K: Clock + Drop, W: Write, C: JournalRun, S: Start>(
     alloc: Global,
     engine: &mut Engine,
     input: R,

@@ -9,7 +9,9 @@ ghost use Rattle.batch_wire.specs.WrittenTranscript.{WritesTranscript};
 ghost use Rattle.batch_keep.specs.Told.{IsJournalAtRest, TellsLinesIfKnown, IsToldAgain, TellsLines};
 
 use batch_engine::Engine;
-use batch_journal::{Disk, JournalReader, Memory, Run, Sum, lines_begin, recovered_are_lines};
+use batch_journal::{
+    Disk, JournalReader, JournalRun, Memory, Sum, lines_begin, recovered_are_lines,
+};
 use batch_serve::{NoRemarks, Remarks, ServeFault, serve, want_is_not_told};
 use std::alloc::Global;
 use std::io::{Read, Write};
@@ -90,7 +92,14 @@ pub fn serve_in_memory<K: Clock + Drop>(
     serve_journalled(alloc, engine, input, journal, writer, max_reads)
 }
 
-pub(crate) fn serve_at<R: Read + Drop, D: Disk, K: Clock + Drop, W: Write, C: Run, M: Remarks<W>>(
+pub(crate) fn serve_at<
+    R: Read + Drop,
+    D: Disk,
+    K: Clock + Drop,
+    W: Write,
+    C: JournalRun,
+    M: Remarks<W>,
+>(
     alloc: Global,
     engine: &mut Engine,
     input: R,

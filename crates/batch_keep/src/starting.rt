@@ -53,7 +53,7 @@ impl From<BlockFault> for StartFault {
 
 /// A plant in the state to which the lines of its journal led it.
 #[derive(Drop)]
-pub struct Started {
+pub struct RecoveredPlant {
     /// The engine, which was given these lines again.
     pub engine: Engine,
     /// The sum of the journal's last group.
@@ -75,7 +75,7 @@ pub fn start<D: Disk>(
     set: Cleared,
     disk: &mut D,
     documents: Digits,
-) -> Result<Started, StartFault>
+) -> Result<RecoveredPlant, StartFault>
     // After a restart a read returns the bytes on the disk.
     requires { D.is_disk disk.old → D.durable disk.old ≡ D.seen disk.old }
     ensures taken { D.is_disk disk.new → IfOk result (λ _. IsRecoverable documents.text (D.seen disk.old)) }
@@ -108,7 +108,7 @@ pub fn start_desks<D: Disk>(
     disk: &mut D,
     documents: Digits,
     names: &[Name],
-) -> Result<(Started, Vec<Lines>), StartFault>
+) -> Result<(RecoveredPlant, Vec<Lines>), StartFault>
     // After a restart a read returns the bytes on the disk.
     requires { D.is_disk disk.old → D.durable disk.old ≡ D.seen disk.old }
     ensures taken { D.is_disk disk.new → IfOk result (λ _. IsRecoverable documents.text (D.seen disk.old)) }
@@ -133,7 +133,7 @@ pub fn start_desks<D: Disk>(
         return Err(StartFault::Memory);
     };
     let (block, desks) = recovery_blocks(alloc, &mut engine, &recovered.text, &digits, names)?;
-    let started = Started {
+    let started = RecoveredPlant {
         engine,
         sum: recovered.sum,
         block,

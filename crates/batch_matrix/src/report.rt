@@ -18,7 +18,7 @@ pub enum Report {
 
 /// The outcome of an accepted report for its phase.
 #[derive(Clone, Copy, PartialEq, Eq)]
-pub enum PhaseEnd {
+pub enum ReportOutcome {
     /// The phase has ended.
     Ended,
     /// The phase is live, in this state.
@@ -29,7 +29,7 @@ pub enum PhaseEnd {
 
 /// The outcome of the report for a live phase in this state. None where the phase doesn't accept it and so stays as it is.
 // claim: cells of reports
-pub fn after_report(state: State, report: Report) -> Option<PhaseEnd>
+pub fn after_report(state: State, report: Report) -> Option<ReportOutcome>
     ensures { result ≡ after_report state report }
 {
     match report {
@@ -39,32 +39,32 @@ pub fn after_report(state: State, report: Report) -> Option<PhaseEnd>
             | State::Holding
             | State::Restarting
             | State::Stopping
-            | State::Aborting => Some(PhaseEnd::Ended),
+            | State::Aborting => Some(ReportOutcome::Ended),
             _ => None,
         },
         Report::Paused => match state {
-            State::Pausing => Some(PhaseEnd::Now(State::Paused)),
+            State::Pausing => Some(ReportOutcome::Now(State::Paused)),
             _ => None,
         },
         Report::Held => match state {
-            State::Holding => Some(PhaseEnd::Now(State::Held)),
+            State::Holding => Some(ReportOutcome::Now(State::Held)),
             _ => None,
         },
         Report::Running => match state {
-            State::Restarting => Some(PhaseEnd::Now(State::Running)),
+            State::Restarting => Some(ReportOutcome::Now(State::Running)),
             _ => None,
         },
         Report::Stopped => match state {
-            State::Stopping => Some(PhaseEnd::Ended),
+            State::Stopping => Some(ReportOutcome::Ended),
             _ => None,
         },
         Report::Aborted => match state {
-            State::Aborting => Some(PhaseEnd::Ended),
+            State::Aborting => Some(ReportOutcome::Ended),
             _ => None,
         },
         Report::Fault => match state {
             State::Idle | State::Stopped | State::Aborted | State::Complete => None,
-            _ => Some(PhaseEnd::Same),
+            _ => Some(ReportOutcome::Same),
         },
     }
 }

@@ -1,7 +1,7 @@
 //! The remarks on a circle: the acts that hold and ask, their files and lines, and the changes that clear the set.
 use crate::names::{act_name, recipe_name, resource_name};
 use crate::roles::{class_of, unit_of};
-use crate::sources::Source;
+use crate::sources::RecipeSource;
 use crate::ways::node_above;
 use batch_cell::Cell;
 use batch_check::{Edge, rise_without};
@@ -17,7 +17,7 @@ pub(crate) fn holder_said(
     alloc: Global,
     cell: &Cell,
     recipes: &[Recipe],
-    sources: &[Source],
+    sources: &[RecipeSource],
     edge: Edge,
 ) -> Result<String, AllocError> {
     let Some(recipe) = recipes.get(usize::from(edge.recipe)) else {
@@ -38,7 +38,7 @@ pub(crate) fn asker_said(
     alloc: Global,
     cell: &Cell,
     recipes: &[Recipe],
-    sources: &[Source],
+    sources: &[RecipeSource],
     edge: Edge,
 ) -> Result<String, AllocError> {
     let Some(recipe) = recipes.get(usize::from(edge.recipe)) else {
@@ -121,7 +121,7 @@ fn may_take(cell: &Cell, recipe: &Recipe, role: &Name, unit: &str) -> bool {
 fn file_said(
     alloc: Global,
     recipe: &Recipe,
-    sources: &[Source],
+    sources: &[RecipeSource],
     number: u16,
     node: u16,
     has_file: bool,

@@ -18,6 +18,6 @@ pub use certificates::certificate_sentence;
 pub use explanation::{Explanation, explain};
 pub use names::act_name;
 pub use sets::{fault_sentence, refusal_sentence};
-pub use sources::Source;
+pub use sources::RecipeSource;
 pub use table::explanations;
 pub use warnings::{recipe_warning, unit_warning};

@@ -5,7 +5,7 @@ ghost use Rattle.batch_messages.specs.CircleSentence.{IsCircleTold, IsEdgeTold, 
 use crate::circles::{advice_said, asker_said, holder_said};
 use crate::names::{act_name, recipe_name, resource_name};
 use crate::nodes::broken_said;
-use crate::sources::{Source, origin_said};
+use crate::sources::{RecipeSource, origin_said};
 use batch_cell::Cell;
 use batch_check::{CheckFault, Edge};
 use batch_model::MAX_RECIPES;
@@ -22,7 +22,7 @@ pub fn refusal_sentence(
     alloc: Global,
     cell: &Cell,
     recipes: &[Recipe],
-    sources: &[Source],
+    sources: &[RecipeSource],
     certificate: &Certificate,
     refusal: SetRefusal,
 ) -> Result<Sentence, AllocError> {
@@ -82,7 +82,7 @@ fn recipe_said(
     alloc: Global,
     cell: &Cell,
     recipes: &[Recipe],
-    sources: &[Source],
+    sources: &[RecipeSource],
     number: u16,
     certificate: Option<&Certificate>,
     broken: Broken,
@@ -99,7 +99,7 @@ fn recipe_said(
 fn no_set_said(
     alloc: Global,
     recipes: &[Recipe],
-    sources: &[Source],
+    sources: &[RecipeSource],
 ) -> Result<String, AllocError> {
     for (first, recipe) in recipes.iter().enumerate() {
         let name = &recipe.acts.procedure.name;
@@ -120,7 +120,7 @@ fn no_set_said(
 /// The files of these two recipes, if they are known.
 fn files_said(
     alloc: Global,
-    sources: &[Source],
+    sources: &[RecipeSource],
     first: usize,
     later: usize,
 ) -> Result<String, AllocError> {
@@ -139,7 +139,7 @@ pub fn fault_sentence(
     alloc: Global,
     cell: &Cell,
     recipes: &[Recipe],
-    sources: &[Source],
+    sources: &[RecipeSource],
     fault: &CheckFault,
 ) -> Result<Sentence, AllocError>
     ensures { IfOk result (λ sentence. SaysCircle cell.now recipes.now fault.now (string_bytes sentence.text)) }
@@ -160,7 +160,7 @@ fn mended_said(
     alloc: Global,
     cell: &Cell,
     recipes: &[Recipe],
-    sources: &[Source],
+    sources: &[RecipeSource],
     edges: &[Edge],
 ) -> Result<String, AllocError>
     ensures { IfOk result (λ said. (words : List ℕ) × (more : List ℕ)
@@ -176,7 +176,7 @@ fn circle_said(
     alloc: Global,
     cell: &Cell,
     recipes: &[Recipe],
-    sources: &[Source],
+    sources: &[RecipeSource],
     edges: &[Edge],
 ) -> Result<String, AllocError>
     ensures { IfOk result (λ said. IsCircleTold cell.now recipes.now edges.now (string_bytes said)) }
@@ -193,7 +193,7 @@ fn edge_said(
     alloc: Global,
     cell: &Cell,
     recipes: &[Recipe],
-    sources: &[Source],
+    sources: &[RecipeSource],
     edge: Edge,
 ) -> Result<String, AllocError>
     ensures { IfOk result (λ said. IsEdgeTold cell.now recipes.now edge (string_bytes said)) }

@@ -5,7 +5,7 @@ use std::alloc::{AllocError, Global};
 
 /// The document of a recipe: its path, and the lines in which the tables of its acts begin.
 #[derive(Drop)]
-pub struct Source {
+pub struct RecipeSource {
     /// The path, with its control characters as escapes.
     path: String,
     procedures: Vec<usize>,
@@ -14,10 +14,10 @@ pub struct Source {
     phases: Vec<usize>,
 }
 
-impl Source {
+impl RecipeSource {
     /// The source of the document at the path, of which only the lines of headers are kept.
-    pub fn of(alloc: Global, path: &str, document: &[u8]) -> Result<Source, AllocError> {
-        let mut source = Source {
+    pub fn of(alloc: Global, path: &str, document: &[u8]) -> Result<RecipeSource, AllocError> {
+        let mut source = RecipeSource {
             path: shown(alloc, path)?,
             procedures: Vec::new(alloc),
             unit_procedures: Vec::new(alloc),
@@ -86,7 +86,7 @@ fn line_among(lines: &[usize], number: usize, tables: usize) -> Option<usize> {
 /// The file of the recipe with this number and the line of the act at its node, as far as they are known, each with a mark behind it.
 pub(crate) fn origin_said(
     alloc: Global,
-    sources: &[Source],
+    sources: &[RecipeSource],
     number: u16,
     recipe: &Recipe,
     node: u16,

@@ -7,8 +7,8 @@ use Rattle.batch_matrix.specs.declared.state.State.TheVariants.{Idle, Holding}
 use Rattle.batch_matrix.specs.declared.command.Command.{Command}
 use Rattle.batch_matrix.specs.declared.command.Command.TheVariants.{Hold}
 use Rattle.batch_matrix.specs.declared.report.Report.{Report}
-use Rattle.batch_matrix.specs.declared.report.PhaseEnd.{PhaseEnd}
-use Rattle.batch_matrix.specs.declared.report.PhaseEnd.TheVariants.{Ended, Now, Same}
+use Rattle.batch_matrix.specs.declared.report.ReportOutcome.{ReportOutcome}
+use Rattle.batch_matrix.specs.declared.report.ReportOutcome.TheVariants.{Ended, Now, Same}
 use Rattle.batch_matrix.specs.Matrix.{same_state, same_report, accepts, target, after_report}
 use Rattle.batch_recipe.specs.Conditions.{Name, ValueList, same_name}
 use Rattle.batch_recipe.specs.Values.{with_values, with_outputs_zero, are_outputs, left_out}
@@ -165,7 +165,7 @@ abbrev pub live_phase : List Batch → Name → Name → Option LivePhase
 live_phase [] unit name = None
 live_phase (batch ∷ more) unit name = option_or (live_in batch unit name (acts batch.rest)) (live_phase more unit name)
 
-abbrev pub phase_after : PhaseEnd → Rest → Rest
+abbrev pub phase_after : ReportOutcome → Rest → Rest
 phase_after Ended rest = ended rest
 phase_after Same rest = rest
 phase_after (Now becomes) (live step phase state) = live step phase becomes
@@ -180,7 +180,7 @@ abbrev pub outputs_of : Report → ValueList → ValueList
 outputs_of word outputs = elim (same_report word Report.Done) [ true ↦ outputs | false ↦ [] ]
 
 -- the batch after a report: first the outputs are set, then the phase changes
-abbrev pub batch_reported : Report → ValueList → Place → PhaseEnd → Batch → Batch
+abbrev pub batch_reported : Report → ValueList → Place → ReportOutcome → Batch → Batch
 batch_reported word outputs place phase_end batch =
     in_act place (phase_after phase_end)
     (record batch { values = with_values outputs batch.values; state = batch_state_after word batch.state })
@@ -190,7 +190,7 @@ abbrev pub owed : State → Report → List Name → List Name
 owed now word names = elim (same_report word Report.Done && not (is_stopping now)) [ true ↦ names | false ↦ [] ]
 
 -- the answer to an expected report whose outputs may be set; the name, if any, is the first output that it leaves out
-abbrev pub accepting : Plant → Name → Name → Report → ValueList → LivePhase → PhaseEnd → Option Name → Answer
+abbrev pub accepting : Plant → Name → Name → Report → ValueList → LivePhase → ReportOutcome → Option Name → Answer
 accepting plant unit name word outputs found phase_end (Some output) = (refused (output_left_out output), plant)
 accepting plant unit name word outputs found phase_end None = (
   reported unit name word found.batch.number found.place (batch_state_after word found.batch.state),

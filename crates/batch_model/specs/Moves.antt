@@ -77,8 +77,8 @@ abbrev pub passes : List (State × Command)
 passes =
     (Running, Resume) ∷ (Pausing, Pause) ∷ (Holding, Hold) ∷ (Restarting, Restart) ∷ (Stopping, Stop) ∷ (Aborting, Abort) ∷ []
 
-abbrev pub passed_on : State → Option Command
-passed_on now = option_map (λ pair. pair.1) (find (λ pair. same_state pair.0 now) passes)
+abbrev pub command_passed_on : State → Option Command
+command_passed_on now = option_map (λ pair. pair.1) (find (λ pair. same_state pair.0 now) passes)
 
 abbrev pub is_running : State → Bool
 is_running now = same_state now Running
@@ -167,7 +167,7 @@ act_move setup plant batch (open_act step rest) =
           [ true ↦ giving_back batch step (length step.needs) | false ↦ None ]
     ]
 act_move setup plant batch (live step phase now) =
-    option_and_then (λ command. when (accepts now command) (send batch.number step.place phase command)) (passed_on batch.state)
+    option_and_then (λ command. when (accepts now command) (send batch.number step.place phase command)) (command_passed_on batch.state)
 act_move setup plant batch (freeing step left) =
     elim (is_stopping batch.state || is_stopped batch.state) [ true ↦ giving_back batch step left | false ↦ handing_over batch step left ]
 act_move setup plant batch _ = None

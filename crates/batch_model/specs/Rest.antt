@@ -4,7 +4,7 @@ use Rattle.std.specs.List.{list_any}
 use Rattle.std.specs.Cmp.Lexicographic.{pointwise}
 use Rattle.batch_matrix.specs.declared.state.State.{State}
 use Rattle.batch_recipe.specs.Conditions.{ValueList, holds}
-use Rattle.batch_recipe.specs.declared.condition.Cond.{Cond}
+use Rattle.batch_recipe.specs.declared.condition.Condition.{Condition}
 use Rattle.batch_recipe.specs.Tree.{Place, Step, Phase, Tree, act, skip, seq, par, sel, loop, Task, Trees, no_trees, tree, Choices, otherwise, choice}
 
 abbrev pub same_place : Place → Place → Bool
@@ -26,7 +26,7 @@ mutual
     in_seq : Rest → Trees → Rest
     in_par : Rests → Rest
     -- the number of turns that may follow, and the rest of this one
-    in_loop : ℕ → Cond → Tree → Rest → Rest
+    in_loop : ℕ → Condition → Tree → Rest → Rest
     done : Rest
 
   pub data Rests : Type 0 where
@@ -46,7 +46,7 @@ abbrev pub joined : Rests → Rest
 joined rests = elim (all_done rests) [ true ↦ done | false ↦ in_par rests ]
 
 -- a body in which nothing is left to run is finished in all its turns
-abbrev pub turning : ℕ → Cond → Tree → Rest → Rest
+abbrev pub turning : ℕ → Condition → Tree → Rest → Rest
 turning turns until body remaining = elim (is_done remaining) [ true ↦ done | false ↦ in_loop turns until body remaining ]
 
 -- the input of a chart that is reached: the values of the batch, and the places that hold their units in advance
@@ -89,7 +89,7 @@ abbrev pub continued : Moment → Rest → Trees → Rest
 continued moment remaining charts = elim (is_done remaining) [ true ↦ reach_first moment charts | false ↦ in_seq remaining charts ]
 
 -- a turn that is finished is the last if the condition holds or no turn may follow
-abbrev pub turned : Moment → ℕ → Cond → Tree → Rest → Rest
+abbrev pub turned : Moment → ℕ → Condition → Tree → Rest → Rest
 turned moment zero until body remaining = elim (is_done remaining) [ true ↦ done | false ↦ in_loop 0 until body remaining ]
 turned moment (suc turns) until body remaining =
     elim (is_done remaining) [

@@ -6,7 +6,7 @@ use Rattle.batch_matrix.specs.Matrix.{accepts}
 use Rattle.batch_recipe.specs.Tree.{Task, runs, follows, Tree, act, skip, seq, par, sel, loop, Trees, no_trees, tree, Choices, otherwise, choice}
 use Rattle.batch_model.specs.Rest.{Rest, ready, asking, open_act, live, freeing, in_seq, in_par, in_loop, done, Rests, no_rests, rest}
 use Rattle.batch_model.specs.Plant.{Setup, Batch, Plant, opening}
-use Rattle.batch_model.specs.Moves.{Move, next, after_move, passed_on, is_stopping, is_stopped}
+use Rattle.batch_model.specs.Moves.{Move, next, after_move, command_passed_on, is_stopping, is_stopped}
 use Rattle.batch_model.specs.Events.{Event, Reply, created, refused, no_memory, react}
 
 pub data Out : Type 0 where
@@ -58,7 +58,7 @@ abbrev mutual
 
 -- 1 if a batch in this state passes a command on to a phase in that state, else 0
 abbrev pub sends : State → State → ℕ
-sends state phase_state = elim (passed_on state) [ None ↦ 0 | Some command ↦ elim (accepts phase_state command) [ true ↦ 1 | false ↦ 0 ] ]
+sends state phase_state = elim (command_passed_on state) [ None ↦ 0 | Some command ↦ elim (accepts phase_state command) [ true ↦ 1 | false ↦ 0 ] ]
 
 -- a batch in this state isn't on its way to Stopped or Aborted, nor there
 abbrev pub goes_on : State → Bool

@@ -12,7 +12,7 @@ use Rattle.batch_recipe.specs.declared.act.Work.TheVariants.{Follows, Runs}
 use Rattle.batch_recipe.specs.declared.acts.Acts.{Acts}
 use Rattle.batch_recipe.specs.declared.acts.LabelTable.{LabelTable}
 use Rattle.batch_recipe.specs.declared.chart.Chart.{Chart}
-use Rattle.batch_recipe.specs.declared.condition.Cond.{Cond}
+use Rattle.batch_recipe.specs.declared.condition.Condition.{Condition}
 use Rattle.batch_recipe.specs.declared.need.Need.{Need}
 use Rattle.batch_recipe.specs.declared.recipe.Recipe.{Recipe}
 use Rattle.batch_recipe.specs.declared.role.Role.{Role as RecipeRole}
@@ -43,10 +43,10 @@ line s head turns = s.place ++ (codes " " ++ (head ++ (held_text s.held ++ (turn
 abbrev pub plain_line : Seat → List ℕ → List ℕ
 plain_line s head = line s head []
 
-abbrev pub loop_text : ℕ → Cond → List ℕ
+abbrev pub loop_text : ℕ → Condition → List ℕ
 loop_text turns until = codes " turns " ++ (decimal turns ++ (codes " until " ++ condition_text until))
 
-abbrev pub if_text : Cond → List ℕ
+abbrev pub if_text : Condition → List ℕ
 if_text c = codes " if " ++ condition_text c
 
 -- the lines of a label at a seat
@@ -111,6 +111,6 @@ labels_from r level = named_lines r.roles.items r.acts (tables_from r.acts level
 abbrev pub part_lines : Recipe → Option LabelTable → List ℕ → List ℕ → ℕ → List Chart → List ℕ
 part_lines r level p h i parts = along_each (labels_from r level) p h i (diagrams_of (map diagram_of parts))
 
-abbrev pub choice_lines : Recipe → Option LabelTable → List ℕ → List ℕ → ℕ → List (Cond × Chart) → Chart → List ℕ
+abbrev pub choice_lines : Recipe → Option LabelTable → List ℕ → List ℕ → ℕ → List (Condition × Chart) → Chart → List ℕ
 choice_lines r level p h i choices last =
     along_cases (labels_from r level) p h i (cases_of (map (λ choice. (choice.0, diagram_of choice.1)) choices) (diagram_of last))

@@ -9,7 +9,7 @@ use Rattle.batch_recipe.specs.declared.act.UnitChoice.TheVariants.{Unit, Role}
 use Rattle.batch_recipe.specs.declared.act.Work.{Work}
 use Rattle.batch_recipe.specs.declared.act.Work.TheVariants.{Follows}
 use Rattle.batch_recipe.specs.declared.chart.Chart.{Chart}
-use Rattle.batch_recipe.specs.declared.condition.Cond.{Cond}
+use Rattle.batch_recipe.specs.declared.condition.Condition.{Condition}
 use Rattle.batch_recipe.specs.declared.condition.Op.TheVariants.{AtMost}
 use Rattle.batch_recipe.specs.declared.condition.Term.TheVariants.{Number}
 use Rattle.batch_recipe.specs.declared.need.Need.{Need}
@@ -24,7 +24,7 @@ TwoUnits = need_text two_units ≡ codes "STEAM*2"
 abbrev pub OneUnit : Type 0
 OneUnit = need_text (one_unit (codes "STEAM")) ≡ codes "STEAM"
 
-abbrev pub at_most_seven : Cond
+abbrev pub at_most_seven : Condition
 at_most_seven = record { name = codes "X"; op = AtMost; term = Number 7 }
 
 -- the condition is that of its branch, and of nothing below it

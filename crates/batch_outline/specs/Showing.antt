@@ -13,7 +13,7 @@ use Rattle.batch_recipe.specs.declared.act.UnitChoice.{UnitChoice}
 use Rattle.batch_recipe.specs.declared.act.UnitChoice.TheVariants.{Unit, Role}
 use Rattle.batch_recipe.specs.declared.act.Work.{Work}
 use Rattle.batch_recipe.specs.declared.act.Work.TheVariants.{Follows, Runs}
-use Rattle.batch_recipe.specs.declared.condition.Cond.{Cond}
+use Rattle.batch_recipe.specs.declared.condition.Condition.{Condition}
 use Rattle.batch_recipe.specs.declared.condition.Op.{Op}
 use Rattle.batch_recipe.specs.declared.condition.Op.TheVariants.{Less, AtMost, Equal, NotEqual, AtLeast, Greater}
 use Rattle.batch_recipe.specs.declared.condition.Term.{Term}
@@ -27,7 +27,7 @@ use Rattle.batch_recipe.specs.declared.role.Role.{Role as RecipeRole}
 -- when a node is chosen: it is no branch of a `sel`, or its condition holds, or none before it does
 pub data Branch : Type 0 where
   no_branch : Branch
-  chosen_if : Cond → Branch
+  chosen_if : Condition → Branch
   chosen_else : Branch
 
 -- the branches of the nodes of a tree, in the order of the places; that of the tree itself is given
@@ -95,7 +95,7 @@ abbrev pub term_text : Term → List ℕ
 term_text (Named name) = name
 term_text (Number n) = decimal n
 
-abbrev pub condition_text : Cond → List ℕ
+abbrev pub condition_text : Condition → List ℕ
 condition_text c = c.name ++ (codes " " ++ (op_text c.op ++ (codes " " ++ term_text c.term)))
 
 -- a resource, and after a star the number of its units, if it is more than one

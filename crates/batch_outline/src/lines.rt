@@ -3,7 +3,7 @@ ghost use Rattle.std.specs.Prelude.{◌≡◌, ◌++◌, IfOk, OnOk, codes, deci
 ghost use Rattle.batch_outline.specs.Along.{held_text, if_text, line, loop_text, seat_of};
 ghost use Rattle.batch_outline.specs.Showing.{condition_text, op_text, term_text};
 
-use batch_recipe::{Cond, Op, Term};
+use batch_recipe::{Condition, Op, Term};
 use std::alloc::{AllocError, Global};
 
 /// The seat of the line of a node.
@@ -50,7 +50,7 @@ pub fn child_place(alloc: Global, place: &str, child: usize) -> Result<String, A
 }
 
 /// The text of the greatest number of turns of a loop, and of the condition that ends it.
-pub fn loop_text(alloc: Global, turns: u64, until: &Cond) -> Result<String, AllocError>
+pub fn loop_text(alloc: Global, turns: u64, until: &Condition) -> Result<String, AllocError>
     ensures { IfOk result (λ text. string_bytes text ≡ loop_text turns until.now) }
 {
     let condition = condition_text(alloc, until)?;
@@ -58,14 +58,14 @@ pub fn loop_text(alloc: Global, turns: u64, until: &Cond) -> Result<String, Allo
 }
 
 /// The text of the condition of a branch of a `sel` that isn't the last.
-pub fn if_text(alloc: Global, condition: &Cond) -> Result<String, AllocError>
+pub fn if_text(alloc: Global, condition: &Condition) -> Result<String, AllocError>
     ensures { IfOk result (λ text. string_bytes text ≡ if_text condition.now) }
 {
     let condition = condition_text(alloc, condition)?;
     format!(in alloc; " if {condition}")
 }
 
-fn condition_text(alloc: Global, condition: &Cond) -> Result<String, AllocError>
+fn condition_text(alloc: Global, condition: &Condition) -> Result<String, AllocError>
     ensures { IfOk result (λ text. string_bytes text ≡ condition_text condition.now) }
 {
     let name = &condition.name;

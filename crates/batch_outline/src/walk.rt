@@ -5,7 +5,7 @@ ghost use Rattle.batch_outline.specs.Along.{act_lines, along, choice_lines, labe
 
 use crate::acts::{act_text, held_below, kind_below};
 use crate::lines::{Seat, child_place, if_text, loop_text, put_line};
-use batch_recipe::{Act, Chart, Cond, LabelTable, Recipe, Work, act_named};
+use batch_recipe::{Act, Chart, Condition, LabelTable, Recipe, Work, act_named};
 use batch_text::Name;
 use std::alloc::{AllocError, Global};
 
@@ -122,7 +122,7 @@ fn put_choices(
     text: &mut String,
     recipe: &Recipe,
     level: Option<LabelTable>,
-    choices: &[(Cond, Chart)],
+    choices: &[(Condition, Chart)],
     last: &Chart,
     seat: Seat<'_>,
 ) -> Result<(), AllocError>
@@ -157,7 +157,7 @@ fn put_loop(
     recipe: &Recipe,
     level: Option<LabelTable>,
     turns: u64,
-    turn: &(Cond, Chart),
+    turn: &(Condition, Chart),
     seat: Seat<'_>,
 ) -> Result<(), AllocError>
     ensures { OnOk result (string_bytes text.new ≡ string_bytes text.old

@@ -4,7 +4,7 @@ use Rattle.std.proofs.lemmas.List.{map-append}
 use Rattle.rtrb.specs.Ring.{sent}
 use Rattle.batch_reader.specs.declared.desk.Desk as plans
 use Rattle.batch_engine.specs.View.{EngineView}
-use Rattle.batch_serve.specs.declared.{desk.Desk.Desk, desk_server.DeskServer.DeskServer, rounds.Reader.Reader, rounds.Writer.Writer}
+use Rattle.batch_serve.specs.declared.{desk.ServedDesk.ServedDesk, desk_server.DeskServer.DeskServer, rounds.Reader.Reader, rounds.Writer.Writer}
 use Rattle.batch_pipes.{proofs.Lists.both_more, proofs.Lists.length_more, specs.Inputs.IsNewReader, specs.Kept.ArePortsOf, specs.Opened.IsOpened, specs.Opened.IsOpenedOn, specs.declared.input_order.InputOrder.InputOrder, specs.declared.ports.Ports.Ports}
 
 -- a property of each element, and of one more
@@ -46,12 +46,12 @@ opened_more {P} engine desks desk old new before after of as_many so_far on =
       engine_is = on.desks.engine ∙ so_far.engine_is;
       names = on.desks.names ∙ ap (λ l. l ++ desk.name ∷ []) so_far.names ∙ sym (map-append (λ (d : plans.Desk). d.name) desks (desk ∷ []));
       units = λ k other plan within.
-          subst (λ (l : List Desk). (get_or l k other).unit ≡ (get_or (desks ++ desk ∷ []) k plan).unit) (sym on.desks.desks)
-          (both_more (λ _ (d : Desk) (p : plans.Desk). d.unit ≡ p.unit) old.desks.items desks on.desk desk as_many on.unit so_far.units k other plan (omega (arith, within, count)));
+          subst (λ (l : List ServedDesk). (get_or l k other).unit ≡ (get_or (desks ++ desk ∷ []) k plan).unit) (sym on.desks.desks)
+          (both_more (λ _ (d : ServedDesk) (p : plans.Desk). d.unit ≡ p.unit) old.desks.items desks on.desk desk as_many on.unit so_far.units k other plan (omega (arith, within, count)));
       last = on.desks.last ∙ so_far.last;
       group = on.desks.group ∙ so_far.group;
       empty = record {
-        waits = λ k other within. of_each (λ (d : Desk). d.waiting.lines ≡ []) old.desks.items new.desks.items on.desk other k n on.desks.desks refl so_far.empty.waits on.waits
+        waits = λ k other within. of_each (λ (d : ServedDesk). d.waiting.lines ≡ []) old.desks.items new.desks.items on.desk other k n on.desks.desks refl so_far.empty.waits on.waits
             (omega (arith, within, count));
         came = λ k plan reader within.
             subst (λ (l : List (Reader (InputOrder P))). IsNewReader (option_map string_bytes (get_or (desks ++ desk ∷ []) k plan).input) (get_or l k reader)) (sym on.ports.readers)

@@ -3,12 +3,12 @@ use Rattle.std.proofs.Common.{◌≡◌, ◌<◌, ℕ, Bool, true, false, ◌||�
 use Rattle.std.{proofs.lemmas.Bool.false≢true, proofs.lemmas.Grind.flat_map-append, proofs.lemmas.List.Folds.list_any-append, specs.List.list_any}
 use Rattle.rtrb.specs.Ring.{received, sent}
 use Rattle.batch_wire.specs.Transcript.{lines_of}
-use Rattle.batch_serve.{specs.CleanLines.clean_lines, specs.Replays.IsWholeLines, specs.Rounds.AreGathered, specs.Rounds.AreMessagesOf, specs.Rounds.HaveWholeLines, specs.Rounds.IsGathered, specs.Rounds.IsTextOfMessages, specs.Rounds.is_end, specs.Rounds.text_of_one, specs.Rounds.text_sent, specs.Runs.Run, specs.Threads.MayHandOver, specs.declared.desk.Desk.Desk, specs.declared.rounds.Reader.Reader, specs.declared.rounds.Sent.Sent, specs.declared.rounds.Sent.TheVariants.Path, specs.declared.rounds.Sent.TheVariants.Lines, specs.declared.rounds.Sent.TheVariants.End, proofs.TranscriptLines.both}
+use Rattle.batch_serve.{specs.CleanLines.clean_lines, specs.Replays.IsWholeLines, specs.Rounds.AreGathered, specs.Rounds.AreMessagesOf, specs.Rounds.HaveWholeLines, specs.Rounds.IsGathered, specs.Rounds.IsTextOfMessages, specs.Rounds.is_end, specs.Rounds.text_of_one, specs.Rounds.text_sent, specs.Runs.Run, specs.Threads.MayHandOver, specs.declared.desk.ServedDesk.ServedDesk, specs.declared.rounds.Reader.Reader, specs.declared.rounds.ReaderMessage.ReaderMessage, specs.declared.rounds.ReaderMessage.TheVariants.Path, specs.declared.rounds.ReaderMessage.TheVariants.Lines, specs.declared.rounds.ReaderMessage.TheVariants.End, proofs.TranscriptLines.both}
 use Rattle.batch_pipes.{proofs.Lists.one_of, specs.InputOrder.CameBehind, specs.InputOrder.IsGiven, specs.InputOrder.IsOrdered, specs.InputOrder.cleaned, specs.InputOrder.given_by, specs.Inputs.InputsGoOn, specs.Inputs.IsInputOf, specs.Inputs.IsNewReader, specs.Kept.AreReadersKept, specs.Streams.IsNew, specs.declared.reading.InputTask.InputTask}
 
 -- The protocol
 
-abbrev pub order_of : (List ℕ → Option (List ℕ)) → List Sent → Sent → Type 0
+abbrev pub order_of : (List ℕ → Option (List ℕ)) → List ReaderMessage → ReaderMessage → Type 0
 order_of given before next = IsOrdered given (before ++ next ∷ [])
 
 -- no message yet
@@ -16,8 +16,8 @@ none_of : (input : Option (List ℕ)) → AreMessagesOf input []
 none_of input = record { whole = tt; begun = λ text known. (text, refl, λ t. absurd (false≢true t)) }
 
 -- messages of the input that its pipes give
-behind_path : (given : List ℕ → Option (List ℕ)) (path : List ℕ) (input : Option (List ℕ)) (before : List Sent) → CameBehind (Some path) before [] → IsGiven (given path) input
-    → (messages : List Sent) (next : Sent) → AreMessagesOf (cleaned input) (messages ++ next ∷ []) → order_of given (before ++ messages) next
+behind_path : (given : List ℕ → Option (List ℕ)) (path : List ℕ) (input : Option (List ℕ)) (before : List ReaderMessage) → CameBehind (Some path) before [] → IsGiven (given path) input
+    → (messages : List ReaderMessage) (next : ReaderMessage) → AreMessagesOf (cleaned input) (messages ++ next ∷ []) → order_of given (before ++ messages) next
 behind_path given path input [] came is messages next of = absurd came
 behind_path given path input (Lines text ∷ before) came is messages next of = absurd came
 behind_path given path input (End ∷ before) came is messages next of = absurd came
@@ -36,7 +36,7 @@ may_hand_over given task input new is messages next of = behind_path given (stri
 
 -- The messages that came
 
-behind_more : (given : List ℕ → Option (List ℕ)) (path : Option (List ℕ)) (came messages : List Sent) (next : Sent) → CameBehind path came messages → order_of given came next
+behind_more : (given : List ℕ → Option (List ℕ)) (path : Option (List ℕ)) (came messages : List ReaderMessage) (next : ReaderMessage) → CameBehind path came messages → order_of given came next
     → CameBehind path (came ++ next ∷ []) (messages ++ next ∷ []) × AreMessagesOf (cleaned (given_by given path)) (messages ++ next ∷ [])
 behind_more given path [] messages next behind allowed = absurd behind
 behind_more given path (Lines text ∷ came) messages next behind allowed = absurd behind
@@ -52,10 +52,10 @@ input_gathered : {O : Type 0} (given : List ℕ → Option (List ℕ)) (path : O
     → IsInputOf given path old → IsGathered (order_of given) desk is_cut old new before after → IsInputOf given path new
 input_gathered {O} given path desk is_cut old new before after of g = go g.message g.came g.allowed g.ends
   where
-    ended : (more : List Sent) → new.has_ended ≡ (old.has_ended || list_any is_end more) → new.has_ended ≡ list_any is_end (of.messages ++ more)
+    ended : (more : List ReaderMessage) → new.has_ended ≡ (old.has_ended || list_any is_end more) → new.has_ended ≡ list_any is_end (of.messages ++ more)
     ended more is = is ∙ ap (λ b. b || list_any is_end more) of.ends ∙ sym (list_any-append is_end of.messages more)
 
-    go : (m : Option Sent) → received new.ring ≡ received old.ring ++ option_to_list m → IfSome m (order_of given (received old.ring))
+    go : (m : Option ReaderMessage) → received new.ring ≡ received old.ring ++ option_to_list m → IfSome m (order_of given (received old.ring))
         → new.has_ended ≡ (old.has_ended || list_any is_end (option_to_list m)) → IsInputOf given path new
     go None came allowed ends = record {
       messages = of.messages;
@@ -67,7 +67,7 @@ input_gathered {O} given path desk is_cut old new before after of g = go g.messa
         let (behind, all) = behind_more given path (received old.ring) of.messages next of.came allowed in
         record { messages = of.messages ++ next ∷ []; came = subst (λ l. CameBehind path l (of.messages ++ next ∷ [])) (sym came) behind; of = all; ends = ended (next ∷ []) ends }
 
-pub inputs_gathered : {O : Type 0} (given : List ℕ → Option (List ℕ)) (desks : List Desk) (old new : List (Reader O)) (before after : List Run) → length old ≡ length desks
+pub inputs_gathered : {O : Type 0} (given : List ℕ → Option (List ℕ)) (desks : List ServedDesk) (old new : List (Reader O)) (before after : List Run) → length old ≡ length desks
     → AreGathered (order_of given) desks old new before after → InputsGoOn given old new
 inputs_gathered given desks old new before after as_many g listed of = record {
   count = g.count ∙ of.count;
@@ -94,22 +94,22 @@ input_begins given path reader new = record { messages = []; came = new.came; of
 
 -- The lines that were served
 
-text_behind : (path : Option (List ℕ)) (came messages : List Sent) → CameBehind path came messages → text_sent came ≡ text_sent messages
+text_behind : (path : Option (List ℕ)) (came messages : List ReaderMessage) → CameBehind path came messages → text_sent came ≡ text_sent messages
 text_behind path [] messages behind = absurd behind
 text_behind path (Lines text ∷ came) messages behind = absurd behind
 text_behind path (End ∷ came) messages behind = absurd behind
 text_behind path (Path from ∷ came) messages behind = ap text_sent behind.1
 
-pub no_text : (path : Option (List ℕ)) (came : List Sent) → CameBehind path came [] → text_sent came ≡ []
+pub no_text : (path : Option (List ℕ)) (came : List ReaderMessage) → CameBehind path came [] → text_sent came ≡ []
 no_text path came behind = text_behind path came [] behind
 
-whole_behind : (path : Option (List ℕ)) (came messages : List Sent) → CameBehind path came messages → HaveWholeLines messages → HaveWholeLines came
+whole_behind : (path : Option (List ℕ)) (came messages : List ReaderMessage) → CameBehind path came messages → HaveWholeLines messages → HaveWholeLines came
 whole_behind path [] messages behind whole = absurd behind
 whole_behind path (Lines text ∷ came) messages behind whole = absurd behind
 whole_behind path (End ∷ came) messages behind whole = absurd behind
 whole_behind path (Path from ∷ came) messages behind whole = (inl refl, subst HaveWholeLines (sym behind.1) whole)
 
-whole_front : (front rest : List Sent) → HaveWholeLines (front ++ rest) → IsWholeLines (text_sent front)
+whole_front : (front rest : List ReaderMessage) → HaveWholeLines (front ++ rest) → IsWholeLines (text_sent front)
 whole_front [] rest whole = inl refl
 whole_front (message ∷ front) rest whole = both (text_of_one message) (text_sent front) whole.0 (whole_front front rest whole.1)
 

@@ -3,7 +3,7 @@ use Rattle.std.proofs.Common.{◌≡◌, ◌<◌, ℕ, zero, suc, Bool, true, fa
 use Rattle.std.{proofs.lemmas.Grind.flat_map-append, proofs.lemmas.List.Elements.All-append, proofs.lemmas.List.Elements.All-nil, proofs.KnownBytes.Appends-nil, proofs.KnownBytes.Appends-trans, specs.Io.KnownBytes.Appends}
 use Rattle.batch_engine.specs.View.{EngineView, plant_of, setup}
 use Rattle.rtrb.specs.Ring.{received, sent}
-use Rattle.batch_serve.{specs.Rounds.AreGathered, specs.Rounds.IsHandedOver, specs.Rounds.IsTextOfMessages, specs.Rounds.text_sent, specs.Runs.AreOfDesks, specs.Runs.Run, specs.Runs.due_of, specs.Runs.last_of, specs.Runs.own_text, specs.Runs.runs_text, specs.Served.AreServed, specs.Turns.IsSameBut, specs.Turns.IsTurned, specs.Waits.IsAccount, specs.declared.desk.Desk.Desk, specs.declared.desk_server.DeskServer.DeskServer, specs.declared.rounds.Reader.Reader, specs.declared.rounds.Sent.Sent, specs.declared.rounds.Writer.Writer, proofs.DeskLines.lines_go_on, proofs.RunTexts.texts_go_on, proofs.ServerAccounts.last_same, proofs.ServerAccounts.life_turned, proofs.ServerAccounts.lives_take, specs.Comments.time_text}
+use Rattle.batch_serve.{specs.Rounds.AreGathered, specs.Rounds.IsHandedOver, specs.Rounds.IsTextOfMessages, specs.Rounds.text_sent, specs.Runs.AreOfDesks, specs.Runs.Run, specs.Runs.due_of, specs.Runs.last_of, specs.Runs.own_text, specs.Runs.runs_text, specs.Served.AreServed, specs.Turns.IsSameBut, specs.Turns.IsTurned, specs.Waits.IsAccount, specs.declared.desk.ServedDesk.ServedDesk, specs.declared.desk_server.DeskServer.DeskServer, specs.declared.rounds.Reader.Reader, specs.declared.rounds.ReaderMessage.ReaderMessage, specs.declared.rounds.Writer.Writer, proofs.DeskLines.lines_go_on, proofs.RunTexts.texts_go_on, proofs.ServerAccounts.last_same, proofs.ServerAccounts.life_turned, proofs.ServerAccounts.lives_take, specs.Comments.time_text}
 use Rattle.batch_reader.specs.DeskNames.{desk_names}
 use Rattle.batch_reader.specs.declared.desk.Desk as plans
 use Rattle.batch_pipes.{proofs.ReaderMessages.input_begins, proofs.ReaderMessages.no_text, proofs.ReaderMessages.own_begun, proofs.ReaderMessages.own_whole, proofs.Lists.one_of, proofs.WriterOutputs.is_given_back, specs.Ended.AreDesksEnded, specs.Ended.IsGivenBack, specs.Inputs.AreInputsOf, specs.Inputs.InputsGoOn, specs.Kept.AreDone, specs.Kept.AreReadersKept, specs.Kept.ArePortsOf, specs.Kept.AreSameDesks, specs.Opened.IsOpened, specs.OutputEnds.IsHandedBack, specs.Outputs.AreOutputsKept, specs.Outputs.AreOutputsOpened, specs.Outputs.AreSettled, specs.Outputs.Asked, specs.Outputs.asked_by, specs.Outputs.asked_of, specs.Service.AppendsTime, specs.Service.AppendsTimed, specs.Service.AreDesksServed, specs.Service.AreTimes, specs.Service.IsService, specs.Service.IsTime, specs.Service.Opening, specs.Service.RecordPart, specs.Service.Rings, specs.Service.without_record, specs.Service.came_from, specs.Service.rings_of, specs.Service.told_to, specs.declared.input_order.InputOrder.InputOrder, specs.declared.outcome.OutputOutcome.OutputOutcome, specs.declared.output.Output.Output, specs.declared.ports.Ports.Ports, specs.declared.written.Written.Written}
@@ -69,7 +69,7 @@ came_at : {O : Type 0} (readers : List (Reader O)) (k : ℕ) (reader : Reader O)
 came_at {O} readers k reader within = of_one (λ (r : Reader O). received r.ring) readers k reader [] within
 
 -- lines are taken from readers
-pub service_gathered : {K O : Type 0} (is_safe : K → Type 0) (allows : List Sent → Sent → Type 0) (keeper : K) (times : Bool) (begun : Opening) (kept : List ℕ)
+pub service_gathered : {K O : Type 0} (is_safe : K → Type 0) (allows : List ReaderMessage → ReaderMessage → Type 0) (keeper : K) (times : Bool) (begun : Opening) (kept : List ℕ)
     (recorded : Option (List ℕ)) (old new : DeskServer) (told : ℕ → List (List ℕ)) (before after : List (Reader O)) → IsSameBut old new
     → AreGathered allows old.desks.items before after old.group.items new.group.items → length before ≡ length old.desks.items
     → IsService times begun (is_safe keeper) kept recorded old (record { told = told; came = came_from before })
@@ -81,22 +81,22 @@ service_gathered {K} {O} is_safe allows keeper times begun kept recorded old new
   life = lives_take is_safe keeper (without_record begun) s.runs s.answers (record { kept = kept; recorded = None; told = told }) old new s.life same;
   is_recorded = subst (λ (n : List (List ℕ)). AppendsTimed times begun.recorded recorded (runs_text n None s.answers)) (sym same.names) s.is_recorded;
   of_desks = (
-    subst (λ (l : List Desk). AreOfDesks (length l) s.runs) (sym same.desks) s.of_desks.0,
-    subst (λ (l : List Desk). AreOfDesks (length l) new.group.items) (sym same.desks) (gathered.of_desks s.of_desks.1),
+    subst (λ (l : List ServedDesk). AreOfDesks (length l) s.runs) (sym same.desks) s.of_desks.0,
+    subst (λ (l : List ServedDesk). AreOfDesks (length l) new.group.items) (sym same.desks) (gathered.of_desks s.of_desks.1),
   );
   lines = λ k desk within.
       let in_old : k < length old.desks.items = omega (arith, within, ap length same.desks) in
       let in_before : k < length before = omega (arith, in_old, count) in
       let reader : Reader O = one_of before k in_before in
       let is_cut : Bool = (get_or old.desks.items k desk).waiting.is_cut in
-      subst (λ (l : List Desk). IsTextOfMessages (came_from after k) (get_or l k desk).waiting.is_cut (own_text k (s.runs ++ new.group.items))) (sym same.desks)
+      subst (λ (l : List ServedDesk). IsTextOfMessages (came_from after k) (get_or l k desk).waiting.is_cut (own_text k (s.runs ++ new.group.items))) (sym same.desks)
       (subst (λ l. IsTextOfMessages l is_cut (own_text k (s.runs ++ new.group.items))) (sym (came_at after k reader (omega (arith, in_before, gathered.count))))
       (lines_go_on {O = O} allows k is_cut s.runs old.group.items new.group.items (get_or before k reader) (get_or after k reader)
       (subst (λ l. IsTextOfMessages l is_cut (own_text k (s.runs ++ old.group.items))) (came_at before k reader in_before) (s.lines k desk in_old)) (gathered.each k reader desk in_before)));
 }
 
 -- the desk may be cut now
-text_cut : (came : List Sent) (was_cut is_cut : Bool) (text : List ℕ) → (is_cut ≡ false → was_cut ≡ false) → IsTextOfMessages came was_cut text → IsTextOfMessages came is_cut text
+text_cut : (came : List ReaderMessage) (was_cut is_cut : Bool) (text : List ℕ) → (is_cut ≡ false → was_cut ≡ false) → IsTextOfMessages came was_cut text → IsTextOfMessages came is_cut text
 text_cut came was_cut is_cut text cut t =
     record { taken = t.taken; dropped = t.dropped; came_is = t.came_is; text_is = t.text_is; all = λ uncut. t.all (cut uncut) }
 
@@ -184,7 +184,7 @@ service_handed {K} {P} is_safe keeper times begun kept recorded old new before a
       (text_cut (came_from before.readers.items k) _ _ _ (handed.handed.each k desk writer in_writers).cut (s.lines k desk in_old)));
 }
   where
-    handed_on : (k : ℕ) (other : Desk) → k < length old.desks.items
+    handed_on : (k : ℕ) (other : ServedDesk) → k < length old.desks.items
         → IsAccount (due_of k (get_or new.desks.items k other).unit s.answers) (told_to after.writers.items k) (get_or new.desks.items k other).waiting
     handed_on k other in_old =
         let in_writers : k < length before.writers.items = omega (arith, in_old, of.writers) in
@@ -294,7 +294,7 @@ desks_end {K} {P} {W} is_safe keeper times begun given stands contents hands_bac
           let writer : Writer = one_of p.writers.items k in_writers in
           let o : Output W P = one_of outputs k in_outputs in
           let output : Output W P = get_or outputs k o in
-          let at : Desk = get_or s.desks.items k desk in
+          let at : ServedDesk = get_or s.desks.items k desk in
           let asked : asked_of output ≡ asked_by (get_or listed k plan) (get_or fronts k []) = output_kept.asked k o in_first ∙ outputs_opened.asked k o plan within in
           let unit : at.unit ≡ (get_or listed k plan).unit =
           same.units k desk (omega (arith, in_desks, same.count)) ∙ opened_on.units k desk plan (omega (arith, in_desks, same.count)) in

@@ -2,7 +2,7 @@
 use Rattle.std.proofs.Common.{◌≡◌, ℕ, Bool, true, false, List, [], ◌++◌, Option, Some, None, IfSome, option_map, refl, sym, ap, subst, append_assoc, append-nil, ◌∙◌}
 use Rattle.std.{proofs.KnownBytes.Appends-kept, proofs.KnownBytes.Appends-trans, proofs.lemmas.Bool.false≢true, specs.Io.KnownBytes.Appends, specs.Io.KnownBytes.Consumes, specs.Io.KnownBytes.IsAtEnd, specs.Io.KnownBytes.Keeps, specs.Io.KnownBytes.append_known}
 use Rattle.batch_wire.specs.{Transcript.lines_of, Written.AppendsBeginning}
-use Rattle.batch_serve.specs.{CleanLines.clean_lines, Rounds.text_sent, Threads.IsInputRead, Threads.AreLinesWritten, Threads.lines_text, declared.rounds.Sent.Sent}
+use Rattle.batch_serve.specs.{CleanLines.clean_lines, Rounds.text_sent, Threads.IsInputRead, Threads.AreLinesWritten, Threads.lines_text, declared.rounds.ReaderMessage.ReaderMessage}
 use Rattle.batch_pipes.specs.{Streams.HandsOver, Streams.HasNoOutput, Streams.HoldsBeginning, Streams.IsWrittenBehind, Streams.IsWrittenOf, Streams.IsWrittenOut, declared.fault.PipeFault.PipeFault, declared.written.Written.Written}
 
 -- Inputs
@@ -16,7 +16,7 @@ rest_of ended text front more (Some xs) (Some ys) is read all end =
     let same : text ≡ xs = cc in
     (more ++ ys, same ∙ read ∙ append_assoc front more ys, λ t. ap (λ l. l ++ ys) (all t) ∙ end t)
 
-pub hands_over : (ended told : Bool) (input old new : Option (List ℕ)) (before after : List Sent) → (ended ≡ true → told ≡ true)
+pub hands_over : (ended told : Bool) (input old new : Option (List ℕ)) (before after : List ReaderMessage) → (ended ≡ true → told ≡ true)
     → old ≡ option_map (λ (bytes : List ℕ). clean_lines (lines_of bytes)) input → IsInputRead told old new before after → HandsOver ended input before after
 hands_over ended told input old new before after well is read = record {
   items = read.items;
@@ -27,7 +27,7 @@ hands_over ended told input old new before after well is read = record {
   told = λ t. read.told (well t);
 }
 
-pub nothing_handed : (input : Option (List ℕ)) (items : List Sent) → HandsOver false input items items
+pub nothing_handed : (input : Option (List ℕ)) (items : List ReaderMessage) → HandsOver false input items items
 nothing_handed input items = record {
   items = [];
   went = sym (append-nil items);

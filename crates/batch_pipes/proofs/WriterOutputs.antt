@@ -3,7 +3,7 @@ use Rattle.std.proofs.Common.{◌≡◌, ◌<◌, ◌+◌, ℕ, false, List, [],
 use Rattle.std.proofs.lemmas.{Bool.false≢true, Option.IfSome_then}
 use Rattle.rtrb.specs.Ring.{IsPair, SameProducer, received, sent}
 use Rattle.batch_reader.specs.declared.desk.Desk as plans
-use Rattle.batch_serve.{specs.Rounds.AreSameWriters, specs.Threads.lines_text, specs.Waits.IsAccount, specs.declared.desk.Desk.Desk, specs.declared.rounds.Writer.Writer, proofs.ReadersAndWriters.text_both}
+use Rattle.batch_serve.{specs.Rounds.AreSameWriters, specs.Threads.lines_text, specs.Waits.IsAccount, specs.declared.desk.ServedDesk.ServedDesk, specs.declared.rounds.Writer.Writer, proofs.ReadersAndWriters.text_both}
 use Rattle.batch_pipes.{proofs.Lists.at_place, proofs.Lists.both_more, proofs.Lists.both_set, proofs.Lists.first_set, proofs.Lists.length_more, proofs.Lists.one_of, proofs.Lists.same_set, proofs.Rings.pair_on, proofs.Rings.same_ring, proofs.ThreadStreams.text_grown, specs.Ended.IsGivenBack, specs.Ended.IsOutputTold, specs.OutputEnds.IsHandedBack, specs.OutputEnds.Results, specs.Outputs.AreEnding, specs.Outputs.AreOutputsKept, specs.Outputs.AreOutputsOf, specs.Outputs.AreOutputsOpened, specs.Outputs.AreSettled, specs.Outputs.AreSettledBy, specs.Outputs.Asked, specs.Outputs.IsEndOf, specs.Outputs.IsEnding, specs.Outputs.IsFinished, specs.Outputs.IsOutputAdded, specs.Outputs.IsOutputKept, specs.Outputs.IsOutputOf, specs.Outputs.IsSettled, specs.Outputs.IsSettledBy, specs.Outputs.IsTaskOf, specs.Outputs.asked_by, specs.Outputs.asked_of, specs.Streams.HoldsBeginning, specs.Streams.IsWrittenOf, specs.declared.outcome.OutputOutcome.OutputOutcome, specs.declared.outcome.OutputOutcome.TheVariants.Absent, specs.declared.outcome.OutputOutcome.TheVariants.Joined, specs.declared.outcome.OutputOutcome.TheVariants.Unjoined, specs.declared.output.Output.Output, specs.declared.output.OutputChild.OutputChild, specs.declared.writing.OutputEnd.OutputEnd, specs.declared.writing.OutputTask.OutputTask, specs.declared.written.Written.Written}
 
 -- One output
@@ -180,7 +180,7 @@ settled_all {W} {P} is_result old new writers outcomes kept finished settled = r
 }
 
 -- a desk that isn't cut, with an empty queue, was sent all lines that it is due but those left in the ring
-is_told : {W : Type 0} (contents : W → Option (List ℕ)) (stood : Option (List ℕ)) (front : List ℕ) (due told lines rest : List (List ℕ)) (desk : Desk) (w : Written W) (left : ℕ)
+is_told : {W : Type 0} (contents : W → Option (List ℕ)) (stood : Option (List ℕ)) (front : List ℕ) (due told lines rest : List (List ℕ)) (desk : ServedDesk) (w : Written W) (left : ℕ)
     → IsAccount due told desk.waiting → (desk.waiting.is_cut ≡ false → desk.waiting.lines ≡ []) → told ≡ lines ++ rest → length rest ≡ left
     → IsWrittenOf contents stood (front ++ lines_text lines) w → IsOutputTold contents stood front due desk w left
 is_told contents stood front due told lines rest desk w left account none went count written = record {
@@ -198,7 +198,7 @@ is_told contents stood front due told lines rest desk w left account none went c
         ∙ ap (λ l. front ++ l) (text_both lines (rest ++ account.rest)) ∙ sym (append_assoc front (lines_text lines) (lines_text (rest ++ account.rest)))
 
 pub is_given_back : {W P : Type 0} (contents : W → Option (List ℕ)) (stands : List ℕ → Option (List ℕ)) (hands_back : List ℕ → Written W → Type 0) (asked : Asked) (due : List (List ℕ))
-    (writer : Writer) (desk : Desk) (outcome : OutputOutcome W P) → IsAccount due (sent writer.ring) desk.waiting → (desk.waiting.is_cut ≡ false → desk.waiting.lines ≡ [])
+    (writer : Writer) (desk : ServedDesk) (outcome : OutputOutcome W P) → IsAccount due (sent writer.ring) desk.waiting → (desk.waiting.is_cut ≡ false → desk.waiting.lines ≡ [])
     → IsSettled (IsHandedBack contents stands hands_back) asked writer outcome → IsGivenBack contents stands hands_back asked.path asked.front due desk outcome
 is_given_back contents stands hands_back asked due writer desk Absent account none settled = settled
 is_given_back contents stands hands_back asked due writer desk (Joined w left) account none joined = (
@@ -211,7 +211,7 @@ is_given_back contents stands hands_back asked due writer desk (Unjoined thread)
 
 -- nothing is given back of a desk that has no output
 pub nothing_back : {W P : Type 0} (contents : W → Option (List ℕ)) (stands : List ℕ → Option (List ℕ)) (hands_back : List ℕ → Written W → Type 0) (front : List ℕ) (due : List (List ℕ))
-    (desk : Desk) (outcome : OutputOutcome W P) → IsGivenBack contents stands hands_back None front due desk outcome → outcome ≡ Absent
+    (desk : ServedDesk) (outcome : OutputOutcome W P) → IsGivenBack contents stands hands_back None front due desk outcome → outcome ≡ Absent
 nothing_back contents stands hands_back front due desk Absent back = refl
 nothing_back contents stands hands_back front due desk (Joined w left) back = let (at, none, handed, told) = back in absurd cc
 nothing_back contents stands hands_back front due desk (Unjoined thread) back = absurd cc

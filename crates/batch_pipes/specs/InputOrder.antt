@@ -3,8 +3,8 @@ use Rattle.std.specs.Prelude.{◌≡◌, ℕ, List, [], ◌∷◌, Option, Some,
 use Rattle.batch_wire.specs.Transcript.{lines_of}
 use Rattle.batch_serve.specs.CleanLines.{clean_lines}
 use Rattle.batch_serve.specs.Rounds.{AreMessagesOf}
-use Rattle.batch_serve.specs.declared.rounds.Sent.{Sent}
-use Rattle.batch_serve.specs.declared.rounds.Sent.TheVariants.{Path}
+use Rattle.batch_serve.specs.declared.rounds.ReaderMessage.{ReaderMessage}
+use Rattle.batch_serve.specs.declared.rounds.ReaderMessage.TheVariants.{Path}
 
 -- the bytes of the stream of this path, where they are known; if there is no path, there are none
 abbrev pub given_by : (List ℕ → Option (List ℕ)) → Option (List ℕ) → Option (List ℕ)
@@ -16,12 +16,12 @@ abbrev pub cleaned : Option (List ℕ) → Option (List ℕ)
 cleaned input = option_map (λ (bytes : List ℕ). clean_lines (lines_of bytes)) input
 
 -- the lines of an input come behind its path, in order, and the end behind all of them
-abbrev pub IsOrdered : (List ℕ → Option (List ℕ)) → List Sent → Type 0
+abbrev pub IsOrdered : (List ℕ → Option (List ℕ)) → List ReaderMessage → Type 0
 IsOrdered given (Path path ∷ messages) = AreMessagesOf (cleaned (given_by given (option_map string_bytes path))) messages
 IsOrdered given _ = ⊤
 
 -- these came behind the path
-abbrev pub CameBehind : Option (List ℕ) → List Sent → List Sent → Type 0
+abbrev pub CameBehind : Option (List ℕ) → List ReaderMessage → List ReaderMessage → Type 0
 CameBehind path (Path from ∷ messages) these = (option_map string_bytes from ≡ path) × (messages ≡ these)
 CameBehind path _ these = ⊥
 

@@ -5,7 +5,7 @@ use Rattle.rtrb.specs.Ring.{received}
 use Rattle.batch_reader.specs.declared.desk.Desk as plans
 use Rattle.batch_serve.specs.Rounds.{AreMessagesOf, is_end}
 use Rattle.batch_serve.specs.declared.rounds.Reader.{Reader}
-use Rattle.batch_serve.specs.declared.rounds.Sent.{Sent}
+use Rattle.batch_serve.specs.declared.rounds.ReaderMessage.{ReaderMessage}
 use Rattle.batch_pipes.specs.InputOrder.{CameBehind, cleaned, given_by}
 
 -- nothing came but the path
@@ -15,7 +15,7 @@ pub record IsNewReader {O : Type 0} (path : Option (List ℕ)) (reader : Reader 
 
 -- messages of the input of this path came behind it, and the reader knows of the end
 pub record IsInputOf {O : Type 0} (given : List ℕ → Option (List ℕ)) (path : Option (List ℕ)) (reader : Reader O) : Type 0 where
-  pub messages : List Sent
+  pub messages : List ReaderMessage
   pub came : CameBehind path (received reader.ring) messages
   pub of : AreMessagesOf (cleaned (given_by given path)) messages
   pub ends : reader.has_ended ≡ list_any is_end messages

@@ -3,8 +3,8 @@ use Rattle.std.specs.Prelude.{◌≡◌, ℕ, Bool, true, false, List, [], ◌�
 use Rattle.batch_reader.specs.declared.desk.Desk as plans
 use Rattle.batch_serve.specs.Rounds.{AreMessagesOf}
 use Rattle.batch_serve.specs.Runs.{Run}
-use Rattle.batch_serve.specs.declared.desk.Desk.{Desk}
-use Rattle.batch_serve.specs.declared.rounds.Sent.TheVariants.{Lines, End}
+use Rattle.batch_serve.specs.declared.desk.ServedDesk.{ServedDesk}
+use Rattle.batch_serve.specs.declared.rounds.ReaderMessage.TheVariants.{Lines, End}
 use Rattle.batch_pipes.specs.Ended.{AreOwnServed}
 
 -- the input of a desk: a line of the byte 1, and one of the byte 2
@@ -15,17 +15,17 @@ two_lines = 1 ∷ 10 ∷ 2 ∷ 10 ∷ []
 abbrev pub one_run : List ℕ → List Run
 one_run text = record { desk = 0; text = text } ∷ []
 
-abbrev pub OwnServed : List ℕ → plans.Desk → Desk → Type 0
+abbrev pub OwnServed : List ℕ → plans.Desk → ServedDesk → Type 0
 OwnServed text plan desk = AreOwnServed (λ _. Some two_lines) 0 plan desk (one_run text)
 
 -- this text may have been served of the desk, which is cut or not
 abbrev pub IsServed : Bool → List ℕ → Type 0
 IsServed is_cut text =
-    (path : List ℕ) (plan : plans.Desk) (desk : Desk) → option_map string_bytes plan.input ≡ Some path → desk.waiting.is_cut ≡ is_cut → OwnServed text plan desk
+    (path : List ℕ) (plan : plans.Desk) (desk : ServedDesk) → option_map string_bytes plan.input ≡ Some path → desk.waiting.is_cut ≡ is_cut → OwnServed text plan desk
 
 abbrev pub IsNotServed : Bool → List ℕ → Type 0
 IsNotServed is_cut text =
-    (path : List ℕ) (plan : plans.Desk) (desk : Desk) → option_map string_bytes plan.input ≡ Some path → desk.waiting.is_cut ≡ is_cut → ¬ OwnServed text plan desk
+    (path : List ℕ) (plan : plans.Desk) (desk : ServedDesk) → option_map string_bytes plan.input ≡ Some path → desk.waiting.is_cut ≡ is_cut → ¬ OwnServed text plan desk
 
 -- both lines, or of a cut desk the first
 abbrev pub FrontIsServed : Type 0
@@ -41,7 +41,7 @@ NoOtherIsServed = IsNotServed true (2 ∷ 10 ∷ []) × IsNotServed true (1 ∷ 
 
 -- and no line of a desk that has no input
 abbrev pub NoneIsServed : Type 0
-NoneIsServed = (plan : plans.Desk) (desk : Desk) → plan.input ≡ None → ¬ OwnServed (1 ∷ 10 ∷ []) plan desk
+NoneIsServed = (plan : plans.Desk) (desk : ServedDesk) → plan.input ≡ None → ¬ OwnServed (1 ∷ 10 ∷ []) plan desk
 
 -- the lines and then the end are messages of the input; the end behind the first line isn't, nor is half a line
 abbrev pub EndIsLast : Type 0

@@ -10,10 +10,10 @@ use Rattle.batch_serve.specs.Lives.{Beginning, IsLife}
 use Rattle.batch_serve.specs.Rounds.{IsTextOfMessages}
 use Rattle.batch_serve.specs.Runs.{AreOfDesks, Run, own_text, runs_text}
 use Rattle.batch_serve.specs.Served.{AreServed, AreWhole, ShowNoWant}
-use Rattle.batch_serve.specs.declared.desk.Desk.{Desk}
+use Rattle.batch_serve.specs.declared.desk.ServedDesk.{ServedDesk}
 use Rattle.batch_serve.specs.declared.desk_server.DeskServer.{DeskServer}
 use Rattle.batch_serve.specs.declared.rounds.Reader.{Reader}
-use Rattle.batch_serve.specs.declared.rounds.Sent.{Sent}
+use Rattle.batch_serve.specs.declared.rounds.ReaderMessage.{ReaderMessage}
 use Rattle.batch_serve.specs.declared.rounds.Writer.{Writer}
 use Rattle.batch_pipes.specs.declared.ports.Ports.{Ports}
 
@@ -69,12 +69,12 @@ without_record begun = record { set = begun.set; plant = begun.plant; kept = beg
 -- the lines that went into the ring of the writer of the desk at a place, and the messages that came out of that of its reader
 pub record Rings : Type 0 where
   pub told : ℕ → List (List ℕ)
-  pub came : ℕ → List Sent
+  pub came : ℕ → List ReaderMessage
 
 abbrev pub told_to : List Writer → ℕ → List (List ℕ)
 told_to writers desk = get_or (map (λ (w : Writer). sent w.ring) writers) desk []
 
-abbrev pub came_from : {O : Type 0} → List (Reader O) → ℕ → List Sent
+abbrev pub came_from : {O : Type 0} → List (Reader O) → ℕ → List ReaderMessage
 came_from {O} readers desk = get_or (map (λ (r : Reader O). received r.ring) readers) desk []
 
 abbrev pub rings_of : {P : Type 0} → Ports P → Rings
@@ -91,7 +91,7 @@ pub record IsService (times : Bool) (begun : Opening) (safe : Type 0) (kept : Li
   pub life : IsLife (without_record begun) safe runs answers (record { kept = kept; recorded = None; told = rings.told }) s
   pub is_recorded : AppendsTimed times begun.recorded recorded (runs_text s.names.items None answers)
   pub of_desks : AreOfDesks (length s.desks.items) runs × AreOfDesks (length s.desks.items) s.group.items
-  pub lines : (k : ℕ) (desk : Desk) → k < length s.desks.items → IsTextOfMessages (rings.came k) (get_or s.desks.items k desk).waiting.is_cut (own_text k (runs ++ s.group.items))
+  pub lines : (k : ℕ) (desk : ServedDesk) → k < length s.desks.items → IsTextOfMessages (rings.came k) (get_or s.desks.items k desk).waiting.is_cut (own_text k (runs ++ s.group.items))
 
 -- each account of the service that holds before holds after
 abbrev pub GoesOn : (times again : Bool) (safe_before safe_after : Type 0) (kept_before kept_after : List ℕ) (recorded_before recorded_after : Option (List ℕ))

@@ -8,7 +8,7 @@ use Rattle.batch_wire.specs.Written.{AppendsBeginning}
 use Rattle.batch_serve.specs.CleanLines.{clean_lines}
 use Rattle.batch_serve.specs.Rounds.{is_end, text_sent}
 use Rattle.batch_serve.specs.Threads.{lines_text}
-use Rattle.batch_serve.specs.declared.rounds.Sent.{Sent}
+use Rattle.batch_serve.specs.declared.rounds.ReaderMessage.{ReaderMessage}
 use Rattle.batch_pipes.specs.InputOrder.{CameBehind}
 use Rattle.batch_pipes.specs.declared.fault.PipeFault.{PipeFault}
 use Rattle.batch_pipes.specs.declared.fault.PipeFault.TheVariants.{Memory, OutputUnopened}
@@ -16,8 +16,8 @@ use Rattle.batch_pipes.specs.declared.reading.InputTask.{InputTask}
 use Rattle.batch_pipes.specs.declared.written.Written.{Written}
 
 -- a prefix of the lines of the input, as a journal has them, was handed over; if it ended well, all of them, and the end
-pub record HandsOver (ended : Bool) (input : Option (List ℕ)) (before after : List Sent) : Type 0 where
-  pub items : List Sent
+pub record HandsOver (ended : Bool) (input : Option (List ℕ)) (before after : List ReaderMessage) : Type 0 where
+  pub items : List ReaderMessage
   pub went : after ≡ before ++ items
   pub begun : (bytes : List ℕ) → input ≡ Some bytes
       → (rest : List ℕ) × (clean_lines (lines_of bytes) ≡ text_sent items ++ rest) × (ended ≡ true → rest ≡ [])

@@ -3,7 +3,7 @@ ghost use Rattle.batch_pipes.specs.Kept.{IsDeskKept};
 
 use crate::fault::{Cut, PipeFault};
 use crate::ports::DeskThreads;
-use batch_serve::Desk;
+use batch_serve::ServedDesk;
 use batch_text::Name;
 use batch_wire::write_all;
 use std::alloc::Global;
@@ -12,7 +12,7 @@ use std::io::Write;
 /// Cuts a desk whose input or output failed.
 #[tactic(auto, using(crate::proofs::DeskChanges::kept_twice))]
 pub(crate) fn cut_if_failed(
-    desk: &mut Desk,
+    desk: &mut ServedDesk,
     own: &mut DeskThreads,
     input: Option<PipeFault>,
     output: Option<PipeFault>,
@@ -28,7 +28,7 @@ pub(crate) fn cut_if_failed(
 
 /// Cuts a desk for a fault, if there is one.
 #[tactic(auto, using(crate::proofs::DeskChanges::kept_as_it_is))]
-fn cut_for(desk: &mut Desk, own: &mut DeskThreads, fault: Option<PipeFault>)
+fn cut_for(desk: &mut ServedDesk, own: &mut DeskThreads, fault: Option<PipeFault>)
     ensures { IsDeskKept desk.old desk.new }
 {
     if let Some(fault) = fault {
@@ -38,7 +38,7 @@ fn cut_for(desk: &mut Desk, own: &mut DeskThreads, fault: Option<PipeFault>)
 
 /// Cuts a desk, unless it is cut already.
 #[tactic(auto, using(crate::proofs::DeskChanges::kept_as_it_is, crate::proofs::DeskChanges::kept_but_cut))]
-fn cut(desk: &mut Desk, own: &mut DeskThreads, fault: PipeFault)
+fn cut(desk: &mut ServedDesk, own: &mut DeskThreads, fault: PipeFault)
     ensures { IsDeskKept desk.old desk.new }
 {
     if desk.is_cut() {
@@ -51,7 +51,7 @@ fn cut(desk: &mut Desk, own: &mut DeskThreads, fault: PipeFault)
 
 /// Cuts a desk whose output takes nothing for long, at the end of serving.
 #[tactic(auto, using(crate::proofs::DeskChanges::kept_as_it_is))]
-pub(crate) fn cut_if_stalled(desk: &mut Desk, own: &mut DeskThreads, ends: bool)
+pub(crate) fn cut_if_stalled(desk: &mut ServedDesk, own: &mut DeskThreads, ends: bool)
     ensures { IsDeskKept desk.old desk.new }
 {
     if ends && own.pace.is_stalled() {
@@ -62,7 +62,7 @@ pub(crate) fn cut_if_stalled(desk: &mut Desk, own: &mut DeskThreads, ends: bool)
 /// Reports that a desk is cut, if it is and that wasn't reported.
 pub(crate) fn report_if_cut<E: Write>(
     alloc: Global,
-    desk: &Desk,
+    desk: &ServedDesk,
     name: Option<&Name>,
     own: &mut DeskThreads,
     errors: &mut E,
@@ -76,7 +76,7 @@ pub(crate) fn report_if_cut<E: Write>(
     }
 }
 
-fn why_cut(desk: &Desk, own: &DeskThreads) -> Cut {
+fn why_cut(desk: &ServedDesk, own: &DeskThreads) -> Cut {
     match (own.why, desk.why) {
         (Some(fault), _) => Cut::Pipe(fault),
         (None, Some(reason)) => Cut::Told(reason),

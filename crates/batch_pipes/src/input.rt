@@ -6,7 +6,7 @@ use crate::fault::{DesksFault, PipeFault};
 use crate::flag::Flag;
 use crate::pipes::Pipes;
 use crate::reading::{InputTask, run_input};
-use batch_serve::{Reader, Sent};
+use batch_serve::{Reader, ReaderMessage};
 use rtrb::Protocol;
 use std::alloc::Global;
 use std::thread;
@@ -60,7 +60,7 @@ impl Input {
     }
 
     /// The fault of the input, once all lines before it came. A thread that has nothing more to do is joined.
-    pub(crate) fn poll<T: Threads, O: Protocol<Sent>>(
+    pub(crate) fn poll<T: Threads, O: Protocol<ReaderMessage>>(
         &mut self,
         threads: &T,
         reader: &mut Reader<O>,

@@ -1,6 +1,6 @@
 //! The order in which a desk's input is handed over.
 use crate::pipes::InputBytes;
-use batch_serve::Sent;
+use batch_serve::ReaderMessage;
 use rtrb::Protocol;
 use std::marker::PhantomData;
 
@@ -11,7 +11,7 @@ pub struct InputOrder<P> {
     marker: PhantomData<P>,
 }
 
-impl<P: InputBytes> Protocol<Sent> for InputOrder<P> {
+impl<P: InputBytes> Protocol<ReaderMessage> for InputOrder<P> {
     ghost use Rattle.std.specs.Prelude.{[], ◌∷◌, ◌++◌};
     ghost use Rattle.batch_pipes.specs.InputOrder.{IsOrdered};
 

@@ -21,7 +21,7 @@ use crate::reading::InputTask;
 use crate::writing::OutputTask;
 use batch_engine::Engine;
 use batch_reader::{Desk, Desks};
-use batch_serve::{Desk as Told, DeskServer, Line, Lines, Reader, Sent, Writer};
+use batch_serve::{DeskLine, DeskServer, Lines, Reader, ReaderMessage, ServedDesk, Writer};
 use batch_text::Name;
 use rtrb::{Consumer, Producer, RingBuffer};
 use std::alloc::{AllocError, Global};
@@ -128,7 +128,7 @@ fn open_desk<
     } = desk;
     let stop = Flag::new(alloc)?;
     let lag = lag_of(&output, lag);
-    let told = Told::new(alloc, unit, lag);
+    let told = ServedDesk::new(alloc, unit, lag);
     add_desk(server, name, told)?;
     let (reader, input) = open_input(threads, alloc, pipes, input, stays, &stop)?;
     let (writer, output) = open_output(threads, alloc, pipes, output, front, &stop)?;
@@ -147,7 +147,7 @@ fn lag_of(output: &Option<String>, lag: usize) -> usize
 /// Adds a desk to the server.
 ///
 /// The error is that there is no memory for it.
-fn add_desk(server: &mut DeskServer, name: Name, desk: Told) -> Result<(), AllocError>
+fn add_desk(server: &mut DeskServer, name: Name, desk: ServedDesk) -> Result<(), AllocError>
     ensures { OnOk result (IsDeskAdded name desk server.old server.new) }
 {
     server.names.push(name)?;
@@ -206,7 +206,13 @@ fn open_input<T: Threads, P: Pipes + Send + Drop + 'static>(
 fn input_ring<P: InputBytes>(
     alloc: Global,
     path: &Option<String>,
-) -> Result<(Producer<Sent, Global, InputOrder<P>>, Reader<InputOrder<P>>), AllocError>
+) -> Result<
+    (
+        Producer<ReaderMessage, Global, InputOrder<P>>,
+        Reader<InputOrder<P>>,
+    ),
+    AllocError,
+>
     ensures went { IfOk result (λ ends. CameBehind (option_map string_bytes path.now) (sent ends.0) []) }
     ensures place { IfOk result (λ ends. 0 < known_free ends.0) }
     ensures reader { IfOk result (λ ends. IsNewReader (option_map string_bytes path.now) ends.1) }
@@ -214,7 +220,7 @@ fn input_ring<P: InputBytes>(
     let (mut producer, mut ring) = RingBuffer::with_protocol::<Global, InputOrder<P>>(
         alloc, TEXTS,
     )?;
-    producer.push_reserved(Sent::Path(copy_path(alloc, path)?));
+    producer.push_reserved(ReaderMessage::Path(copy_path(alloc, path)?));
     ring.slots_beside(&mut producer);
     let _path = ring.pop_known();
     let reader = Reader {
@@ -244,7 +250,7 @@ fn read_input<T: Threads, P: Pipes + Send + Drop + 'static>(
     pipes: &P,
     path: String,
     stays: bool,
-    ring: Producer<Sent, Global, InputOrder<P>>,
+    ring: Producer<ReaderMessage, Global, InputOrder<P>>,
     stop: &Flag,
 ) -> Result<Input, DesksFault>
     requires { CameBehind (Some (string_bytes path)) (sent ring) [] }
@@ -261,12 +267,12 @@ fn read_input<T: Threads, P: Pipes + Send + Drop + 'static>(
 }
 
 /// The input of a desk that has none: its end comes at once.
-fn no_input<P: InputBytes>(ring: Producer<Sent, Global, InputOrder<P>>) -> Input
+fn no_input<P: InputBytes>(ring: Producer<ReaderMessage, Global, InputOrder<P>>) -> Input
     requires went { CameBehind None (sent ring) [] }
     requires place { 0 < known_free ring }
 {
     let mut ring = ring;
-    ring.push_reserved(Sent::End);
+    ring.push_reserved(ReaderMessage::End);
     Input::none()
 }
 
@@ -307,7 +313,7 @@ fn write_output<
     pipes: &P,
     path: String,
     front: Vec<u8>,
-    ring: Consumer<Line>,
+    ring: Consumer<DeskLine>,
     stop: &Flag,
     known: Snapshot<Option<String>>,
 ) -> Result<Output<W, P>, DesksFault>
@@ -348,7 +354,7 @@ fn write_output<
 /// The output of a desk that has none: the lines are dropped.
 #[tactic(auto, using(crate::proofs::WriterOutputs::output_missing))]
 fn no_output<W: Write + Drop, P: Outputs<W> + Drop>(
-    ring: Consumer<Line>,
+    ring: Consumer<DeskLine>,
     front: Vec<u8>,
     known: Snapshot<Option<String>>,
 ) -> Output<W, P>

@@ -10,7 +10,7 @@ use crate::outcome::OutputOutcome;
 use crate::output_thread::OutputHandle;
 use crate::pipes::Outputs;
 use crate::writing::OutputEnd;
-use batch_serve::{Line, Writer};
+use batch_serve::{DeskLine, Writer};
 use rtrb::{Consumer, Finished};
 use std::io::Write;
 use std::snapshot::Snapshot;
@@ -39,16 +39,16 @@ pub(crate) struct Output<W: Write + Drop, P: Outputs<W> + Drop> {
     // the result of that thread
     pub(crate) end: Option<OutputEnd<W>>,
     // the other end of the ring of a desk that has no output
-    pub(crate) unseen: Option<Consumer<Line>>,
+    pub(crate) unseen: Option<Consumer<DeskLine>>,
     // all that went into the ring, once nothing more does
-    pub(crate) finished: Option<Finished<Line>>,
+    pub(crate) finished: Option<Finished<DeskLine>>,
     // how many lines are left there, if the thread was joined before that
     pub(crate) left: usize,
 }
 
 impl<W: Write + Drop, P: Outputs<W> + Drop> OutputChild<W, P> {
     /// The outcome of the output, whose ring has ended. The thread is joined if it has nothing more to do, and else given back.
-    fn settle<T: Threads>(self, threads: &T, finished: Finished<Line>) -> OutputOutcome<W, P>
+    fn settle<T: Threads>(self, threads: &T, finished: Finished<DeskLine>) -> OutputOutcome<W, P>
         requires { IsFinishedOf finished self.handle.promise.task.value.ring }
         ensures { (asked : Asked) (writer : OneWriter) → IsTaskOf asked self.handle.promise.task.value writer → Finishes writer.ring finished
             → IsSettled (IsHandedBack W.contents P.stands P.hands_back) asked writer result }

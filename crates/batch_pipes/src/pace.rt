@@ -2,7 +2,7 @@
 ghost use Rattle.std.specs.Prelude.{◌≡◌, []};
 ghost use Rattle.rtrb.specs.Ring.{SameProducer, sent};
 
-use batch_serve::{Desk, Writer};
+use batch_serve::{ServedDesk, Writer};
 
 /// How many rounds serving waits for an output that takes nothing: at its end, and before the output's desk is read on. A round in
 /// which lines are on their way takes a pause, of a millisecond.
@@ -40,7 +40,7 @@ impl Pace {
 
 /// How many lines are on their way to a desk: those queued for it, and those in the ring of its writer.
 #[tactic(auto, using(crate::proofs::DeskRings::nothing_left))]
-pub(crate) fn lines_left(desk: &Desk, writer: &mut Writer) -> usize
+pub(crate) fn lines_left(desk: &ServedDesk, writer: &mut Writer) -> usize
     ensures ring { SameProducer writer.old.ring writer.new.ring }
     ensures went { sent writer.new.ring ≡ sent writer.old.ring }
     ensures none { result ≡ 0 → desk.now.waiting.lines ≡ [] }

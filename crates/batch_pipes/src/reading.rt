@@ -11,7 +11,7 @@ use crate::input_order::InputOrder;
 use crate::noted::Noted;
 use crate::pipes::{InputBytes, Pipes};
 use crate::rest::DeskRest;
-use batch_serve::{CleanReader, Pause, Sent, read_lines};
+use batch_serve::{CleanReader, Pause, ReaderMessage, read_lines};
 use rtrb::{Producer, Protocol};
 use std::alloc::Global;
 use std::io::Read;
@@ -25,7 +25,7 @@ pub struct InputTask<P: InputBytes> {
     pub(crate) path: String,
     pub(crate) stays: bool,
     // the path went through it
-    pub(crate) ring: Producer<Sent, Global, InputOrder<P>>,
+    pub(crate) ring: Producer<ReaderMessage, Global, InputOrder<P>>,
     pub(crate) stop: Flag,
     pub(crate) done: Flag,
 }
@@ -71,11 +71,11 @@ impl<P: InputBytes> InputTask<P> {
 }
 
 /// Hands over the lines of an input, to its end, through this room.
-fn hand_over<R: Read + Drop, O: Protocol<Sent>, S: Pause>(
+fn hand_over<R: Read + Drop, O: Protocol<ReaderMessage>, S: Pause>(
     alloc: Global,
     input: R,
     room: &mut [u8],
-    ring: &mut Producer<Sent, Global, O>,
+    ring: &mut Producer<ReaderMessage, Global, O>,
     rest: &mut S,
 ) -> Result<(), PipeFault>
     requires room { 0 < length room.old }

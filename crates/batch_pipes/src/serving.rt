@@ -21,7 +21,7 @@ use crate::tending::{Outlook, tend_desks};
 use crate::timing::Timing;
 use batch_engine::Engine;
 use batch_reader::Desks;
-use batch_serve::{Desk, DeskServer, Keep, Lines, Pause};
+use batch_serve::{DeskServer, Keep, Lines, Pause, ServedDesk};
 use std::alloc::Global;
 use std::io::Write;
 use std::thread::Threads;
@@ -33,7 +33,7 @@ pub struct DesksEnd<W: Write + Drop, P: Outputs<W> + Drop> {
     /// How many batches are neither complete, stopped nor aborted.
     pub unfinished: usize,
     /// The desks. The first lines of the input of each were served, and all of one that isn't cut.
-    pub desks: Vec<Desk>,
+    pub desks: Vec<ServedDesk>,
     /// The outcomes of the desks' outputs, in the order of the desks.
     pub outputs: Vec<OutputOutcome<W, P>>,
 }

@@ -12,7 +12,7 @@ use crate::output::Output;
 use crate::pace::lines_left;
 use crate::pipes::{Outputs, Pipes};
 use crate::ports::{DeskThreads, Ports};
-use batch_serve::{Desk, DeskServer, Reader, Sent, Writer};
+use batch_serve::{DeskServer, Reader, ReaderMessage, ServedDesk, Writer};
 use batch_text::Name;
 use rtrb::Protocol;
 use std::alloc::Global;
@@ -95,7 +95,7 @@ fn tend_each<T: Threads, O: Write + Drop, P: Pipes + Outputs<O> + Drop, E: Write
     threads: &T,
     alloc: Global,
     names: &[Name],
-    desks: &mut Vec<Desk>,
+    desks: &mut Vec<ServedDesk>,
     ports: &mut Ports<P>,
     outputs: &mut Vec<Output<O, P>>,
     ends: bool,
@@ -128,7 +128,7 @@ fn tend_each<T: Threads, O: Write + Drop, P: Pipes + Outputs<O> + Drop, E: Write
 // claim: desks between turns
 fn tend<T: Threads, O: Write + Drop, P: Pipes + Outputs<O> + Drop>(
     threads: &T,
-    desk: &mut Desk,
+    desk: &mut ServedDesk,
     own: &mut DeskThreads,
     output: &mut Output<O, P>,
     reader: &mut Reader<InputOrder<P>>,
@@ -153,13 +153,13 @@ fn tend<T: Threads, O: Write + Drop, P: Pipes + Outputs<O> + Drop>(
 }
 
 /// Whether a desk isn't to be read for now.
-fn is_to_rest(desk: &Desk, own: &DeskThreads) -> bool {
+fn is_to_rest(desk: &ServedDesk, own: &DeskThreads) -> bool {
     desk.waiting.len() > 0 && !own.pace.is_stalled()
 }
 
 /// The outlook of a desk to which so many lines are on their way.
-fn outlook_of<O: Protocol<Sent>>(
-    desk: &Desk,
+fn outlook_of<O: Protocol<ReaderMessage>>(
+    desk: &ServedDesk,
     own: &DeskThreads,
     reader: &Reader<O>,
     left: usize,

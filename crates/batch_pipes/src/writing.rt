@@ -11,7 +11,7 @@ use crate::noted::Noted;
 use crate::pipes::Outputs;
 use crate::rest::DeskRest;
 use crate::written::Written;
-use batch_serve::{Line, Pause, write_lines};
+use batch_serve::{DeskLine, Pause, write_lines};
 use batch_wire::write_all;
 use rtrb::Consumer;
 use std::alloc::Global;
@@ -26,7 +26,7 @@ pub struct OutputTask {
     pub(crate) path: String,
     /// The text that is written before all else.
     pub(crate) front: Vec<u8>,
-    pub(crate) ring: Consumer<Line>,
+    pub(crate) ring: Consumer<DeskLine>,
     pub(crate) stop: Flag,
     pub(crate) began: Flag,
     pub(crate) done: Flag,
@@ -77,7 +77,7 @@ impl OutputTask {
 #[tactic(auto, using(crate::proofs::ThreadStreams::written_kept))]
 fn write_out<W: Write + Drop, S: Pause>(
     front: &[u8],
-    ring: &mut Consumer<Line>,
+    ring: &mut Consumer<DeskLine>,
     output: &mut Noted<BufWriter<W>>,
     rest: &mut S,
 ) -> bool
@@ -96,7 +96,7 @@ fn write_out<W: Write + Drop, S: Pause>(
 #[tactic(auto, using(crate::proofs::ThreadStreams::written_behind, crate::proofs::ThreadStreams::front_cut))]
 fn write_behind<W: Write, S: Pause>(
     front: &[u8],
-    ring: &mut Consumer<Line>,
+    ring: &mut Consumer<DeskLine>,
     output: &mut W,
     rest: &mut S,
 ) -> bool
@@ -138,7 +138,7 @@ fn unbuffered<W: Write + Drop>(output: Noted<BufWriter<W>>) -> W
 #[derive(Drop)]
 pub(crate) struct OutputEnd<W> {
     // its end of the ring
-    pub(crate) ring: Consumer<Line>,
+    pub(crate) ring: Consumer<DeskLine>,
     pub(crate) written: Written<W>,
 }
 

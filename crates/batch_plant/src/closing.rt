@@ -9,12 +9,12 @@ ghost use Rattle.batch_desk.specs.Turns.{SameWork};
 ghost use Rattle.batch_plant.specs.Parts.{IsRest};
 ghost use Rattle.batch_plant.specs.Plants.{event_rings};
 
-use batch_desk::{Desk, Hub, Inbox};
+use batch_desk::{Hub, Inbox, PortDesk};
 use batch_engine::Event;
 use rtrb::Finished;
 
 /// Closes and seals the port of a desk, and counts the outs that are still to be taken. None where a token didn't come.
-pub(crate) fn close_port(hub: &mut Hub, port: usize, desk: Desk) -> Option<usize>
+pub(crate) fn close_port(hub: &mut Hub, port: usize, desk: PortDesk) -> Option<usize>
     requires { slice_get (rings hub.old) port ≡ Some (desk_rings desk) }
     ensures work { SameWork hub.old hub.new }
     ensures next { slice_get (rings hub.new) (port + 1) ≡ slice_get (rings hub.old) (port + 1) }

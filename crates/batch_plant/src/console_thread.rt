@@ -7,7 +7,7 @@ use crate::ending::ended;
 use crate::flag::FlagGate;
 use crate::plant_fault::PlantFault;
 use crate::plant_task::PlantTask;
-use batch_desk::{Desk, Gate, LoopEnd, console_loop};
+use batch_desk::{Gate, LoopEnd, PortDesk, console_loop};
 use std::alloc::Global;
 use std::snapshot::Snapshot;
 use std::thread;
@@ -16,25 +16,25 @@ use std::thread::{Promise, PromisedHandle, Threads};
 /// The promise of the console's thread, on the desk that it returns.
 #[derive(Drop)]
 pub(crate) struct ConsolePromise {
-    desk: Snapshot<Desk>,
+    desk: Snapshot<PortDesk>,
     task: Snapshot<PlantTask>,
 }
 
-impl Promise<(Desk, LoopEnd)> for ConsolePromise {
+impl Promise<(PortDesk, LoopEnd)> for ConsolePromise {
     ghost use Rattle.batch_desk.specs.Consoles.{IsConsole};
 
     ghost kept_by = { λ p r. IsConsole p.task.value.plan p.task.value.batches p.desk.value r.0 };
 }
 
-pub(crate) type ConsoleHandle = PromisedHandle<(Desk, LoopEnd), ConsolePromise>;
+pub(crate) type ConsoleHandle = PromisedHandle<(PortDesk, LoopEnd), ConsolePromise>;
 
 /// Runs the console to its end.
 fn run<G: Gate + Drop>(
     alloc: Global,
-    desk: Desk,
+    desk: PortDesk,
     task: PlantTask,
     gate: FlagGate<G>,
-) -> (Desk, LoopEnd)
+) -> (PortDesk, LoopEnd)
     ensures { IsConsole task.plan task.batches desk result.0 }
 {
     let mut desk = desk;
@@ -55,7 +55,7 @@ fn run<G: Gate + Drop>(
 pub(crate) fn start_console<R: Threads, G: Gate + Send + Drop + 'static>(
     rt: &R,
     alloc: Global,
-    desk: Desk,
+    desk: PortDesk,
     task: PlantTask,
     gate: FlagGate<G>,
 ) -> Option<ConsoleHandle>
@@ -72,7 +72,7 @@ pub(crate) fn start_console<R: Threads, G: Gate + Send + Drop + 'static>(
 pub(crate) fn join_console<R: Threads>(
     rt: &R,
     child: Option<ConsoleHandle>,
-) -> Result<Desk, PlantFault>
+) -> Result<PortDesk, PlantFault>
     ensures unstarted { IsNone child → result ≡ Err Thread }
     ensures ran { IfOk result (λ desk. IsSomeAnd child (λ c. IsConsole c.promise.task.value.plan c.promise.task.value.batches c.promise.desk.value desk)) }
 {

@@ -8,7 +8,7 @@ use crate::ending::ended;
 use crate::flag::FlagGate;
 use crate::linking::link_loop;
 use crate::plant_fault::PlantFault;
-use batch_desk::{Desk, Gate, LoopEnd};
+use batch_desk::{Gate, LoopEnd, PortDesk};
 use batch_sim::{Simulator, UnitDriver};
 use std::alloc::Global;
 use std::snapshot::Snapshot;
@@ -18,29 +18,29 @@ use std::thread::{Promise, PromisedHandle, Threads};
 /// The promise of the link's thread, on the desk that it returns.
 #[derive(Drop)]
 pub(crate) struct LinkPromise<D: Drop> {
-    desk: Snapshot<Desk>,
+    desk: Snapshot<PortDesk>,
     cell: Snapshot<CellUnits>,
     units: Snapshot<Simulator<D>>,
 }
 
-impl<D: UnitDriver> Promise<(Desk, LoopEnd)> for LinkPromise<D> {
+impl<D: UnitDriver> Promise<(PortDesk, LoopEnd)> for LinkPromise<D> {
     ghost use Rattle.batch_plant.specs.Parts.{LinkRan};
 
     ghost kept_by = { λ p r. LinkRan D.command_gives D.tick_gives p.cell.value p.units.value p.desk.value r.0 };
 }
 
-pub(crate) type LinkHandle<D> = PromisedHandle<(Desk, LoopEnd), LinkPromise<D>>;
+pub(crate) type LinkHandle<D> = PromisedHandle<(PortDesk, LoopEnd), LinkPromise<D>>;
 
 /// Runs the link to its end.
 fn run<D: UnitDriver, G: Gate + Drop>(
     alloc: Global,
-    desk: Desk,
+    desk: PortDesk,
     units: Simulator<D>,
     cell: CellUnits,
     batches: u64,
     gate: FlagGate<G>,
     limit: u64,
-) -> (Desk, LoopEnd)
+) -> (PortDesk, LoopEnd)
     ensures { LinkRan D.command_gives D.tick_gives cell units desk result.0 }
 {
     let mut desk = desk;
@@ -61,7 +61,7 @@ pub(crate) fn start_link<
 >(
     rt: &R,
     alloc: Global,
-    desk: Desk,
+    desk: PortDesk,
     units: Simulator<D>,
     cell: CellUnits,
     batches: u64,
@@ -85,7 +85,7 @@ pub(crate) fn start_link<
 pub(crate) fn join_link<R: Threads, D: UnitDriver>(
     rt: &R,
     child: Option<LinkHandle<D>>,
-) -> Result<Desk, PlantFault>
+) -> Result<PortDesk, PlantFault>
     ensures unstarted { IsNone child → result ≡ Err Thread }
     ensures ran { IfOk result (λ desk. IsSomeAnd child (λ c. LinkRan D.command_gives D.tick_gives c.promise.cell.value c.promise.units.value c.promise.desk.value desk)) }
 {

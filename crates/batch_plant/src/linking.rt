@@ -13,7 +13,7 @@ use crate::cell_units::CellUnits;
 use crate::link::Link;
 use crate::ordering::give_order;
 use crate::reporting::report_event;
-use batch_desk::{Desk, Full, Gate, LoopEnd};
+use batch_desk::{Full, Gate, LoopEnd, PortDesk};
 use batch_engine::{Event, Line, Out};
 use batch_matrix::State;
 use batch_sim::{Simulator, UnitDriver};
@@ -27,7 +27,7 @@ use std::alloc::Global;
 /// is tried again at the next turn. An answer for a phase that the unit doesn't have is dropped.
 pub fn link_loop<D: UnitDriver, G: Gate>(
     alloc: Global,
-    desk: &mut Desk,
+    desk: &mut PortDesk,
     units: &mut Simulator<D>,
     cell: &CellUnits,
     batches: u64,
@@ -63,7 +63,7 @@ pub fn link_loop<D: UnitDriver, G: Gate>(
 fn make_turn<D: UnitDriver>(
     alloc: Global,
     link: &mut Link,
-    desk: &mut Desk,
+    desk: &mut PortDesk,
     units: &mut Simulator<D>,
     cell: &CellUnits,
 )
@@ -80,7 +80,7 @@ fn make_turn<D: UnitDriver>(
 }
 
 /// Gives the units the order of the next out, if one is there.
-fn obey_next<D: UnitDriver>(link: &mut Link, desk: &mut Desk, units: &mut Simulator<D>)
+fn obey_next<D: UnitDriver>(link: &mut Link, desk: &mut PortDesk, units: &mut Simulator<D>)
     ensures next { link.new.next ≡ link.old.next }
     ensures kept { link.new.kept ≡ link.old.kept }
     ensures links { (cell : Cell) → Links D.command_gives D.tick_gives cell (linked cell link.old desk.old units.old) (linked cell link.new desk.new units.new) }
@@ -118,7 +118,13 @@ fn is_complete(out: Out) -> bool
 }
 
 /// Sends the report that is kept, if memory is found and the ring has a place for it.
-fn send_report(alloc: Global, link: &mut Link, desk: &mut Desk, cell: &CellUnits, answer: Answer)
+fn send_report(
+    alloc: Global,
+    link: &mut Link,
+    desk: &mut PortDesk,
+    cell: &CellUnits,
+    answer: Answer,
+)
     requires kept { link.old.kept ≡ Some answer }
     requires unit { answer.unit < length (units_of cell.now) }
     ensures none { (link.new.kept ≡ None) ⊎ (link.new.kept ≡ link.old.kept) }
@@ -133,7 +139,7 @@ fn send_report(alloc: Global, link: &mut Link, desk: &mut Desk, cell: &CellUnits
 }
 
 /// Sends the event, if the ring has a place for it, and keeps nothing then.
-fn send_event(link: &mut Link, desk: &mut Desk, event: Event)
+fn send_event(link: &mut Link, desk: &mut PortDesk, event: Event)
     ensures left { link.new.left ≡ link.old.left }
     ensures next { link.new.next ≡ link.old.next }
     ensures events { desk.new.events ≡ desk.old.events }

@@ -7,7 +7,7 @@ ghost use Rattle.batch_plant.specs.declared.plant_fault.PlantFault.TheVariants.{
 
 use crate::parts::Parts;
 use crate::plant_fault::PlantFault;
-use batch_desk::{Desk, Hub, PortPlan, Scope};
+use batch_desk::{Hub, PortDesk, PortPlan, Scope};
 use batch_engine::Engine;
 use batch_verify::Cleared;
 use std::alloc::Global;
@@ -53,7 +53,7 @@ fn open_hub(alloc: Global, engine: Engine, ring: usize) -> Result<Parts, PlantFa
 }
 
 /// The two desks of a hub.
-fn console_and_link(desks: Vec<Desk>) -> (Desk, Desk)
+fn console_and_link(desks: Vec<PortDesk>) -> (PortDesk, PortDesk)
     requires { length desks.items ≡ 2 }
     ensures { desks.items ≡ result.0 ∷ result.1 ∷ [] }
 {

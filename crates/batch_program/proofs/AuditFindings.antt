@@ -4,7 +4,7 @@ use Rattle.std.specs.{Prelude.IfSome, Io.KnownBytes.Appends}
 use Rattle.clap.specs.Walk.{Text}
 use Rattle.batch_verify.specs.ClearedSet.{ClearedSet}
 use Rattle.batch_wire.specs.Transcript.{lines_of}
-use Rattle.batch_cli.specs.CommandLine.{Source, audit}
+use Rattle.batch_cli.specs.CommandLine.{SetSource, audit}
 use Rattle.batch_keep.specs.Audits as findings
 use Rattle.batch_keep.specs.{Audits.Finds, Audits.told_text, declared.finding.Finding.Finding, declared.finding.Finding.TheVariants.Agrees, declared.finding.Finding.TheVariants.Differs, declared.finding.Finding.TheVariants.EndsBefore}
 use Rattle.batch_verdicts.{specs.Reading.Gives, specs.Requests.IsSetOf, specs.Running.AskFor, specs.Running.IsPrinted, specs.Running.IsUnwritten, specs.Running.Stream, specs.Running.memory_status, specs.VerdictTexts.accepted_text, proofs.Successes.same_request}
@@ -91,16 +91,16 @@ is_found holds set beginning path ends errors status (finds _ _ _ _ (inr fault))
 is_found holds set beginning path ends errors status (stops (_, inl fault)) is = absurd cc
 is_found holds set beginning path ends errors status (stops (_, inr memory)) is = absurd cc
 
-same_beginning : (a b : Bool) (one other : Text) (x y : Source) → audit a one x ≡ audit b other y → a ≡ b
+same_beginning : (a b : Bool) (one other : Text) (x y : SetSource) → audit a one x ≡ audit b other y → a ≡ b
 same_beginning a b one other x y is = cc
 
-same_path : (a b : Bool) (one other : Text) (x y : Source) → audit a one x ≡ audit b other y → one ≡ other
+same_path : (a b : Bool) (one other : Text) (x y : SetSource) → audit a one x ≡ audit b other y → one ≡ other
 same_path a b one other x y is = cc
 
-same_documents : (a b : Bool) (one other : Text) (x y : Source) → audit a one x ≡ audit b other y → x ≡ y
+same_documents : (a b : Bool) (one other : Text) (x y : SetSource) → audit a one x ≡ audit b other y → x ≡ y
 same_documents a b one other x y is = cc
 
-true_at : (gives : Gives) (holds : Holds) (files : JournalFiles) (words : List Text) (ends : serving.Ends) (errors : Stream) (beginning : Bool) (path : Text) (source : Source) (status : ℕ)
+true_at : (gives : Gives) (holds : Holds) (files : JournalFiles) (words : List Text) (ends : serving.Ends) (errors : Stream) (beginning : Bool) (path : Text) (source : SetSource) (status : ℕ)
     → AskFor words (audit beginning path source) → IsProgramRun gives holds files words ends errors status → status ≡ 0
     → (set : ClearedSet) × IsSetOf gives source set × IsFound holds set beginning path ends
 true_at gives holds files words ends errors beginning path source _ asked (tells status came _) is =

@@ -7,7 +7,7 @@ use Rattle.batch_model.specs.Plant.{Plant, Setup}
 use Rattle.batch_engine.specs.View.{setup}
 use Rattle.batch_wire.specs.{Transcript.lines_of, Transcript.whole_lines, Written.AppendsBeginning}
 use Rattle.batch_serve.specs.{Safe.BeginsSafely, Safe.WritesSafely, Safe.WritesWholeSafely, Serves.AnswersAll, Serves.Serves, Serves.WritesTo, declared.fault.ServeFault.TheVariants.Read, declared.fault.ServeFault.TheVariants.Write, declared.fault.ServeFault.TheVariants.TooManyReads, declared.fault.SetFault.SetFault, declared.fault.SetFault.TheVariants.Memory, declared.fault.SetFault.TheVariants.Stopped}
-use Rattle.batch_cli.specs.{declared.comments.Comments.Comments, CommandLine.Request, CommandLine.Source, CommandLine.audit, CommandLine.plant, CommandLine.serve, CommandLine.source_of, CommandLine.tell, CommandLine.keep, CommandLine.write, CommandLine.picture, declared.command.AuditWords.AuditWords, declared.plant_options.PlantOptions.PlantOptions}
+use Rattle.batch_cli.specs.{declared.comments.Comments.Comments, CommandLine.Request, CommandLine.SetSource, CommandLine.audit, CommandLine.plant, CommandLine.serve, CommandLine.source_of, CommandLine.tell, CommandLine.keep, CommandLine.write, CommandLine.picture, declared.command.AuditWords.AuditWords, declared.plant_options.PlantOptions.PlantOptions}
 use Rattle.batch_verdicts.{specs.Reading.Gives, specs.Requests.IsSetOf, specs.Running.AskFor, specs.Running.IsAnnounced, specs.Running.IsDone, specs.Running.IsExplained, specs.Running.IsPrinted, specs.Running.IsRun, specs.Running.IsUnwritten, specs.Running.Stream, specs.Running.ask_quiet, specs.Running.fault_status, specs.Running.success_status, specs.Running.usage_status, specs.Running.memory_status, specs.Statuses.IsSuccess, proofs.Successes.done_keeping, proofs.Successes.done_serving, proofs.Successes.every_in_range, proofs.Successes.same_request, proofs.Successes.success_is_told, specs.Judging.status_of, specs.declared.course.Course.Course, specs.declared.course.Course.TheVariants.Ends, specs.declared.refusal.Halt.Halt, specs.declared.refusal.RefusalKind.RefusalKind, specs.declared.refusal.RefusalKind.TheVariants.Fault, specs.declared.refusal.RefusalKind.TheVariants.OutOfMemory, specs.Digested.AreDigested, specs.declared.digested.Digested.Digested}
 use Rattle.batch_verdicts.specs.Running as running
 use Rattle.batch_verdicts.specs.declared.course.Course.TheVariants as course_of
@@ -100,7 +100,7 @@ left_kept false before mid after (Ok (suc more)) kept told =
 
 -- the set that is to be served is that of the documents that the words name, quietly if they ask for that, and nothing was written
 pub record IsToServe (gives : Gives) (words : List Text) (output errors : Stream) (set : ClearedSet) (quiet : Bool) : Type 0 where
-  pub source : Source
+  pub source : SetSource
   pub asked : AskFor words (serve source)
   pub is_set : IsSetOf gives source set
   pub unwritten : Keeps output.before output.after
@@ -127,7 +127,7 @@ set_to_serve gives words output errors _ set quiet (running.starves _) is = absu
 
 -- a plant that is to be run, with nothing written before
 record IsPlanting (gives : Gives) (request : Request) (set : ClearedSet) (options : PlantOptions) (output errors : Stream) : Type 0 where
-  pub source : Source
+  pub source : SetSource
   pub asked : request ≡ plant source options.batches options.ticks options.ring
   pub is_set : IsSetOf gives source set
   pub unwritten : IsUnwritten output
@@ -135,7 +135,7 @@ record IsPlanting (gives : Gives) (request : Request) (set : ClearedSet) (option
 
 -- the same of a plant, by the words
 pub record IsToPlant (gives : Gives) (words : List Text) (set : ClearedSet) (options : PlantOptions) (output errors : Stream) : Type 0 where
-  pub source : Source
+  pub source : SetSource
   pub asked : AskFor words (plant source options.batches options.ticks options.ring)
   pub is_set : IsSetOf gives source set
   pub unwritten : IsUnwritten output
@@ -433,10 +433,10 @@ pub told_at_once : (gives : Gives) (words : List Text) (output errors : Stream) 
 told_at_once gives words output errors request status asked came is =
     success_is_told gives words output errors request asked (subst (λ k. IsRun gives words output errors (Ends k)) is came)
 
-same_source : (a b : Source) → serve a ≡ serve b → a ≡ b
+same_source : (a b : SetSource) → serve a ≡ serve b → a ≡ b
 same_source a b is = cc
 
-safe_at : (gives : Gives) (holds : Holds) (files : JournalFiles) (words : List Text) (ends : serving.Ends) (errors : Stream) (source : Source) (status : ℕ)
+safe_at : (gives : Gives) (holds : Holds) (files : JournalFiles) (words : List Text) (ends : serving.Ends) (errors : Stream) (source : SetSource) (status : ℕ)
     → AskFor words (serve source) → IsProgramRun gives holds files words ends errors status → status ≡ 0
     → (set : ClearedSet) × (left : ℕ) × IsSetOf gives source set × AnswersAll set left ends × IsLeftTold (ask_quiet words) errors left
 safe_at gives holds files words ends errors source _ asked (tells status came _) is =
@@ -654,10 +654,10 @@ complete_at output errors set batches (Err plant_fault.Thread) status ran (_, me
 complete_at output errors set batches (Err plant_fault.Refused) status ran (_, memory) is = absurd cc
 complete_at output errors set batches (Err plant_fault.Unclosed) status ran (_, memory) is = absurd cc
 
-same_plant : (from to : Source) (a b ticks more ring places : ℕ) → plant from a ticks ring ≡ plant to b more places → (from ≡ to) × (a ≡ b)
+same_plant : (from to : SetSource) (a b ticks more ring places : ℕ) → plant from a ticks ring ≡ plant to b more places → (from ≡ to) × (a ≡ b)
 same_plant from to a b ticks more ring places is = (cc, cc)
 
-told_plant : (gives : Gives) (holds : Holds) (files : JournalFiles) (words : List Text) (ends : serving.Ends) (errors : Stream) (planted : Source) (batches ticks ring status : ℕ)
+told_plant : (gives : Gives) (holds : Holds) (files : JournalFiles) (words : List Text) (ends : serving.Ends) (errors : Stream) (planted : SetSource) (batches ticks ring status : ℕ)
     → AskFor words (plant planted batches ticks ring) → IsProgramRun gives holds files words ends errors status → status ≡ 0
     → (set : ClearedSet) × (handled : ℕ) × IsSetOf gives planted set × HasRun set batches handled × Appends ends.before ends.after (plant_text batches handled)
 told_plant gives holds files words ends errors planted batches ticks ring _ asked (tells status came _) is =

@@ -3,7 +3,7 @@ use Rattle.std.proofs.Common.{◌≡◌, ℕ, Bool, List, Option, Some, None, Re
 use Rattle.std.specs.Io.KnownBytes.{Keeps}
 use Rattle.clap.specs.Walk.{Text}
 use Rattle.batch_verify.specs.ClearedSet.{ClearedSet}
-use Rattle.batch_cli.specs.{CommandLine.Request, CommandLine.Source, CommandLine.remark, CommandLine.serve, declared.comments.Comments.Comments}
+use Rattle.batch_cli.specs.{CommandLine.Request, CommandLine.SetSource, CommandLine.remark, CommandLine.serve, declared.comments.Comments.Comments}
 use Rattle.batch_verdicts.{specs.Reading.Gives, specs.Requests.IsSetOf, specs.Running.AskFor, specs.Running.IsDone, specs.Running.IsRun, specs.Running.IsUnwritten, specs.Running.Stream, specs.Running.ask_quiet, specs.declared.course.Course.Course, proofs.Successes.same_request}
 use Rattle.batch_verdicts.specs.Running as running
 use Rattle.batch_verdicts.specs.declared.course.Course.TheVariants as course_of
@@ -30,7 +30,7 @@ remarked_kept set n served unread left before mid after kept all = record {
 -- the set that is to be served is that of the documents that the words name, with the comments that they ask for, and nothing was
 -- written
 pub record IsToRemark (gives : Gives) (request : Request) (output errors : Stream) (set : ClearedSet) (comments : Comments) : Type 0 where
-  pub source : Source
+  pub source : SetSource
   pub asked : request ≡ remark source comments.echo comments.times
   pub is_set : IsSetOf gives source set
   pub unwritten : IsUnwritten output
@@ -75,10 +75,10 @@ set_to_remark gives words output errors _ set quiet comments (running.starves _)
 
 -- Exit statuses
 
-same_source : (a b : Source) (echo times e t : Bool) → remark a e t ≡ remark b echo times → a ≡ b
+same_source : (a b : SetSource) (echo times e t : Bool) → remark a e t ≡ remark b echo times → a ≡ b
 same_source a b echo times e t is = cc
 
-safe_at : (gives : Gives) (holds : Holds) (files : JournalFiles) (words : List Text) (ends : serving.Ends) (errors : Stream) (source : Source) (echo times : Bool) (status : ℕ)
+safe_at : (gives : Gives) (holds : Holds) (files : JournalFiles) (words : List Text) (ends : serving.Ends) (errors : Stream) (source : SetSource) (echo times : Bool) (status : ℕ)
     → AskFor words (remark source echo times) → IsProgramRun gives holds files words ends errors status → status ≡ 0
     → (set : ClearedSet) × (left : ℕ) × (plain : Option (List ℕ)) × IsSetOf gives source set × IsRemarked ends.before ends.after plain
     × AnswersAll set left (record ends { after = plain }) × IsLeftTold (ask_quiet words) errors left

@@ -6,7 +6,7 @@ use Rattle.std.specs.declared.process.ExitCode.{ExitCode}
 use Rattle.clap.specs.Walk.{Text}
 use Rattle.batch_verify.specs.ClearedSet.{ClearedSet}
 use Rattle.batch_wire.specs.Transcript.{lines_of}
-use Rattle.batch_cli.specs.CommandLine.{Source, audit, keep, plant, serve, serve_desks, tell, Judgement, write, remark, picture}
+use Rattle.batch_cli.specs.CommandLine.{SetSource, audit, keep, plant, serve, serve_desks, tell, Judgement, write, remark, picture}
 use Rattle.batch_cli.specs.declared.plant_options.PlantOptions.{PlantOptions}
 use Rattle.batch_reader.specs.DeskNames.{desk_names}
 use Rattle.batch_reader.specs.declared.desk_set.Desks.{Desks}
@@ -78,11 +78,11 @@ pub data IsProgramRun (gives : Gives) (holds : Holds) (files : JournalFiles) (wo
       → IsWritten holds path text (record { before = warned; after = errors.after }) status
       → IsUnwritten (output_of ends) → Keeps ends.unread ends.left → IsProgramRun gives holds files words ends errors status
   -- the set that the words name is served, by the engine that is made from it
-  serves : (source : Source) (set : ClearedSet) (served : Result ℕ SetFault)
+  serves : (source : SetSource) (set : ClearedSet) (served : Result ℕ SetFault)
       → AskFor words (serve source) → IsSetOf gives source set → Serves set MAX_READS served ends
       → IfOk served (IsLeftTold (ask_quiet words) errors) → IsProgramRun gives holds files words ends errors (status_of_serving served)
   -- the same with comments in the record
-  remarks : (source : Source) (echo times : Bool) (set : ClearedSet) (served : Result ℕ SetFault)
+  remarks : (source : SetSource) (echo times : Bool) (set : ClearedSet) (served : Result ℕ SetFault)
       → AskFor words (remark source echo times) → IsSetOf gives source set → ServesRemarked set MAX_READS served ends
       → IfOk served (IsLeftTold (ask_quiet words) errors) → IsProgramRun gives holds files words ends errors (status_of_serving served)
   -- it is served over the journal that they name, with comments in the record or without them
@@ -102,11 +102,11 @@ pub data IsProgramRun (gives : Gives) (holds : Holds) (files : JournalFiles) (wo
   draws : (path : Option Text) (status : ℕ)
       → AskFor words (picture path) → IsRecordDrawn holds path ends errors status → IsProgramRun gives holds files words ends errors status
   -- the finding on the record that the words name, against the lines of the input over the set that they name, is printed
-  audits : (beginning : Bool) (path : Text) (source : Source) (set : ClearedSet) (status : ℕ)
+  audits : (beginning : Bool) (path : Text) (source : SetSource) (set : ClearedSet) (status : ℕ)
       → AskFor words (audit beginning path source) → IsSetOf gives source set → IsAuditTold holds set beginning path ends errors status
       → IsProgramRun gives holds files words ends errors status
   -- a plant of the set that they name is run with the options that they have, its end is reported, and the input isn't read
-  plants : (source : Source) (set : ClearedSet) (options : PlantOptions) (end : Result ℕ PlantFault) (status : ℕ)
+  plants : (source : SetSource) (set : ClearedSet) (options : PlantOptions) (end : Result ℕ PlantFault) (status : ℕ)
       → AskFor words (plant source options.batches options.ticks options.ring) → IsSetOf gives source set
       → IfOk end (HasRun set options.batches) → IsPlantTold (output_of ends) errors options.batches end status → Keeps ends.unread ends.left
       → IsProgramRun gives holds files words ends errors status
@@ -118,7 +118,7 @@ pub data IsProgramRun (gives : Gives) (holds : Holds) (files : JournalFiles) (wo
 -- many batches the input left unfinished
 abbrev pub ServingIsSafe : Gives → Holds → JournalFiles → Type 0
 ServingIsSafe gives holds files =
-    (words : List Text) (ends : serving.Ends) (errors : Stream) (source : Source)
+    (words : List Text) (ends : serving.Ends) (errors : Stream) (source : SetSource)
     → AskFor words (serve source) → IsProgramRun gives holds files words ends errors 0
     → (set : ClearedSet) × (left : ℕ) × IsSetOf gives source set × AnswersAll set left ends × IsLeftTold (ask_quiet words) errors left
 
@@ -126,7 +126,7 @@ ServingIsSafe gives holds files =
 -- begin it if that is accepted. The record is over the set of its documents, cleared by their certificate
 abbrev pub AuditsAreTrue : Gives → Holds → JournalFiles → Type 0
 AuditsAreTrue gives holds files =
-    (words : List Text) (ends : serving.Ends) (errors : Stream) (beginning : Bool) (path : Text) (source : Source)
+    (words : List Text) (ends : serving.Ends) (errors : Stream) (beginning : Bool) (path : Text) (source : SetSource)
     → AskFor words (audit beginning path source) → IsProgramRun gives holds files words ends errors 0
     → (set : ClearedSet) × (given : Option (List ℕ)) × IsSetOf gives source set × holds path given × Appends ends.before ends.after accepted_text
     × IfSome given (λ text. IfSome ends.unread (λ input. IsAccepted set beginning (lines_of input) text))
@@ -134,7 +134,7 @@ AuditsAreTrue gives holds files =
 -- the same of a run with comments in the record, of the written text without its comments
 abbrev pub RemarkedServingIsSafe : Gives → Holds → JournalFiles → Type 0
 RemarkedServingIsSafe gives holds files =
-    (words : List Text) (ends : serving.Ends) (errors : Stream) (source : Source) (echo times : Bool)
+    (words : List Text) (ends : serving.Ends) (errors : Stream) (source : SetSource) (echo times : Bool)
     → AskFor words (remark source echo times) → IsProgramRun gives holds files words ends errors 0
     → (set : ClearedSet) × (left : ℕ) × (plain : Option (List ℕ)) × IsSetOf gives source set × IsRemarked ends.before ends.after plain
     × AnswersAll set left (record ends { after = plain }) × IsLeftTold (ask_quiet words) errors left
@@ -163,7 +163,7 @@ CertificatesAreKept gives holds files =
 -- says
 abbrev pub PlantsAreComplete : Gives → Holds → JournalFiles → Type 0
 PlantsAreComplete gives holds files =
-    (words : List Text) (ends : serving.Ends) (errors : Stream) (source : Source) (batches ticks ring : ℕ)
+    (words : List Text) (ends : serving.Ends) (errors : Stream) (source : SetSource) (batches ticks ring : ℕ)
     → AskFor words (plant source batches ticks ring) → IsProgramRun gives holds files words ends errors 0
     → (set : ClearedSet) × (handled : ℕ) × IsSetOf gives source set × HasRun set batches handled × Appends ends.before ends.after (plant_text batches handled)
 

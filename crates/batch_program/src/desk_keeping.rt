@@ -18,8 +18,8 @@ use crate::journal_faults::{
 use crate::journals::Journals;
 use crate::keeping::{Messages, write_block};
 use batch_engine::Engine;
-use batch_journal::{Disk, DiskError, Groups, Run};
-use batch_keep::{Journal, Started, start_desks};
+use batch_journal::{Disk, DiskError, Groups, JournalRun};
+use batch_keep::{Journal, RecoveredPlant, start_desks};
 use batch_pipes::{DesksFault, Noted};
 use batch_reader::Desks;
 use batch_serve::Lines;
@@ -100,7 +100,7 @@ fn serve_opened<D: Disk, K: Clock + Drop, P: DeskRunner, W: Write, E: Write>(
     )
 }
 
-fn serve_file<D: Disk, K: Clock + Drop, P: DeskRunner, W: Write, E: Write, C: Run>(
+fn serve_file<D: Disk, K: Clock + Drop, P: DeskRunner, W: Write, E: Write, C: JournalRun>(
     alloc: Global,
     runner: &P,
     served: DeskSet,
@@ -122,7 +122,7 @@ fn serve_file<D: Disk, K: Clock + Drop, P: DeskRunner, W: Write, E: Write, C: Ru
     match start_desks(alloc, digested.set, &mut disk, digested.documents, names) {
         Ok((started, blocks)) => {
             report_cut_off(alloc, messages.quiet, messages.path, started.cut, errors);
-            let Started {
+            let RecoveredPlant {
                 engine,
                 sum,
                 block,
@@ -147,7 +147,7 @@ fn serve_file<D: Disk, K: Clock + Drop, P: DeskRunner, W: Write, E: Write, C: Ru
 }
 
 /// Writes the recovery block, and serves the desks behind it, each of which has a block of its own.
-fn serve_behind<D: Disk, K: Clock + Drop, P: DeskRunner, W: Write, E: Write, C: Run>(
+fn serve_behind<D: Disk, K: Clock + Drop, P: DeskRunner, W: Write, E: Write, C: JournalRun>(
     alloc: Global,
     runner: &P,
     engine: Engine,

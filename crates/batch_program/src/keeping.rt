@@ -20,8 +20,10 @@ use crate::journals::Journals;
 use crate::program::{MAX_READS, report_left};
 use batch_cli::Comments;
 use batch_engine::Engine;
-use batch_journal::{Disk, Run};
-use batch_keep::{Journal, KeepFault, Started, serve_started, serve_started_remarked, start};
+use batch_journal::{Disk, JournalRun};
+use batch_keep::{
+    Journal, KeepFault, RecoveredPlant, serve_started, serve_started_remarked, start,
+};
 use batch_pipes::Noted;
 use batch_serve::{CleanReader, NoRemarks, Remarking, clean_lines_serve_alike};
 use batch_verdicts::{Digested, SUCCESS};
@@ -114,7 +116,7 @@ fn serve_opened<D: Disk, K: Clock + Drop, R: Read, W: Write, E: Write>(
     )
 }
 
-fn serve_file<D: Disk, K: Clock + Drop, R: Read, W: Write, E: Write, C: Run>(
+fn serve_file<D: Disk, K: Clock + Drop, R: Read, W: Write, E: Write, C: JournalRun>(
     alloc: Global,
     digested: Digested,
     messages: Messages,
@@ -140,7 +142,7 @@ fn serve_file<D: Disk, K: Clock + Drop, R: Read, W: Write, E: Write, C: Run>(
     match start(alloc, digested.set, &mut disk, digested.documents) {
         Ok(started) => {
             report_cut_off(alloc, messages.quiet, messages.path, started.cut, errors);
-            let Started {
+            let RecoveredPlant {
                 mut engine,
                 sum,
                 block,
@@ -179,7 +181,7 @@ fn serve_file<D: Disk, K: Clock + Drop, R: Read, W: Write, E: Write, C: Run>(
 }
 
 /// Writes the recovery block, and serves the input behind it.
-fn serve_behind<D: Disk, K: Clock + Drop, R: Read, W: Write, E: Write, C: Run>(
+fn serve_behind<D: Disk, K: Clock + Drop, R: Read, W: Write, E: Write, C: JournalRun>(
     alloc: Global,
     engine: &mut Engine,
     block: &[u8],
@@ -223,7 +225,7 @@ fn serve_behind<D: Disk, K: Clock + Drop, R: Read, W: Write, E: Write, C: Run>(
 }
 
 /// Serves the input, with comments in the record or without them.
-fn serve_shown<R: Read + Drop, D: Disk, K: Clock + Drop, W: Write, C: Run>(
+fn serve_shown<R: Read + Drop, D: Disk, K: Clock + Drop, W: Write, C: JournalRun>(
     alloc: Global,
     engine: &mut Engine,
     input: R,

@@ -2,7 +2,7 @@
 use Rattle.std.proofs.Common.{◌≡◌, ℕ, suc, ◌+◌, ◌-◌, List, [], ◌∷◌, ◌++◌, length, true, ltb, Option, Some, None, option_and_then, refl, sym, ap, ◌∙◌, append-nil, arith, length-append}
 use Rattle.std.{specs.Prelude.codes, proofs.lemmas.Bool.Decides.nat_tests}
 use Rattle.batch_text.specs.{NameText.IsName, NumberText.number_of, NumberText.IsNumber}
-use Rattle.batch_recipe.specs.{declared.chart.TheConstants.MAX_DEPTH, declared.chart.TheConstants.MAX_TURNS, declared.condition.Op.Op, declared.condition.Term.Term, declared.condition.Cond.Cond, Diagram.Diagram, Diagram.Diagrams, Diagram.Cases, Diagram.diagrams_of, Diagram.cases_of}
+use Rattle.batch_recipe.specs.{declared.chart.TheConstants.MAX_DEPTH, declared.chart.TheConstants.MAX_TURNS, declared.condition.Op.Op, declared.condition.Term.Term, declared.condition.Condition.Condition, Diagram.Diagram, Diagram.Diagrams, Diagram.Cases, Diagram.diagrams_of, Diagram.cases_of}
 use Rattle.batch_recipe.specs.declared.condition.Term.TheVariants as term
 use Rattle.batch_recipe.specs.Diagram as chart
 use Rattle.batch_reader.{specs.declared.firsts.Firsts.Firsts, specs.ChartGrammar.Offsets, specs.ChartGrammar.offsets_joined, specs.ChartGrammar.ranged, specs.ChartGrammar.opens_par, specs.ChartGrammar.Skips, specs.ChartGrammar.ReadsOp, specs.ChartGrammar.ReadsTerm, specs.ChartGrammar.ReadsCond, specs.ChartGrammar.Reads, specs.ChartGrammar.ReadsBranches, specs.ChartGrammar.ReadsCases, specs.ChartGrammar.IsWideChart, specs.ChartMachine.Frame, specs.ChartMachine.in_seq, specs.ChartMachine.in_par, specs.ChartMachine.in_case, specs.ChartMachine.in_else, specs.ChartMachine.in_loop, specs.ChartMachine.Test, specs.ChartMachine.of_sel, specs.ChartMachine.of_loop, specs.ChartMachine.Want, specs.ChartMachine.a_chart, specs.ChartMachine.open_seq, specs.ChartMachine.open_par, specs.ChartMachine.open_sel, specs.ChartMachine.open_loop, specs.ChartMachine.a_turns, specs.ChartMachine.after_turns, specs.ChartMachine.a_name, specs.ChartMachine.an_operator, specs.ChartMachine.an_operand, specs.ChartMachine.after_condition, specs.ChartMachine.after_else, specs.ChartMachine.after_chart, specs.ChartMachine.State, specs.ChartMachine.between, specs.ChartMachine.start, specs.ChartMachine.finish, specs.ChartMachine.step, specs.ChartMachine.steps, specs.ChartMachine.begin, specs.ChartMachine.no_firsts, specs.ChartMachine.first_or, specs.ChartMachine.noted, specs.ChartMachine.condition_of, specs.ChartMachine.take_word, specs.ChartMachine.take_chart_word, specs.ChartMachine.take_name_word, specs.ChartMachine.take_operand_word, specs.ChartMachine.deeper, proofs.ChartBytes.letter-not_equals, proofs.ChartBytes.digit-not_equals, proofs.ChartTexts.name_from, proofs.ChartTexts.no_name, proofs.ChartTexts.number_first, proofs.ChartWords.label_word, proofs.ChartTokens.runs, proofs.ChartTokens.runs-skips, proofs.ChartTokens.runs-word_token, proofs.ChartTokens.runs-number_token, proofs.ChartTokens.runs-operator_token, proofs.ChartTokens.runs-sign, proofs.ChartTokens.IsFree, proofs.ChartTokens.free-skips, proofs.ChartTokens.IsNotEquals, proofs.ChartTokens.not_equals-skips}
@@ -22,15 +22,15 @@ pub diagrams_of-last : (us : List Diagram) (t : Diagram) → diagrams_of (us ++ 
 diagrams_of-last [] t = refl
 diagrams_of-last (u ∷ us) t = ap (chart.more u) (diagrams_of-last us t)
 
-abbrev pub with_cases : List (Cond × Diagram) → Cases → Cases
+abbrev pub with_cases : List (Condition × Diagram) → Cases → Cases
 with_cases [] ts = ts
 with_cases (u ∷ us) ts = chart.when u.0 u.1 (with_cases us ts)
 
-pub with_cases-last : (us : List (Cond × Diagram)) (c : Cond) (t : Diagram) (ts : Cases) → with_cases (us ++ (c, t) ∷ []) ts ≡ with_cases us (chart.when c t ts)
+pub with_cases-last : (us : List (Condition × Diagram)) (c : Condition) (t : Diagram) (ts : Cases) → with_cases (us ++ (c, t) ∷ []) ts ≡ with_cases us (chart.when c t ts)
 with_cases-last [] c t ts = refl
 with_cases-last (u ∷ us) c t ts = ap (chart.when u.0 u.1) (with_cases-last us c t ts)
 
-pub cases_of-is : (us : List (Cond × Diagram)) (t : Diagram) → cases_of us t ≡ with_cases us (chart.otherwise t)
+pub cases_of-is : (us : List (Condition × Diagram)) (t : Diagram) → cases_of us t ≡ with_cases us (chart.otherwise t)
 cases_of-is [] t = refl
 cases_of-is (u ∷ us) t = ap (chart.when u.0 u.1) (cases_of-is us t)
 
@@ -79,7 +79,7 @@ runs-operand (spec.named {total = total} {name = bytes} {t = t} skips label) fre
 runs-operand (spec.number {total = total} {t = t} digits skips number) free test name op frames o =
     runs-number_token digits t (after_condition test (record { name = name; op = op; term = term.Number (number_of digits) })) total (an_operand test name op) frames o skips number refl free refl
 
-runs-condition : {total : ℕ} {s t : List ℕ} {out : Offsets} {condition : Cond} → ReadsCond total s t condition out → IsFree t
+runs-condition : {total : ℕ} {s t : List ℕ} {out : Offsets} {condition : Condition} → ReadsCond total s t condition out → IsFree t
     → (test : Test) (frames : List Frame) (o : Firsts)
     → runs total s (between (a_name test) frames o) ≡ runs total t (between (after_condition test condition) frames (noted o out))
 runs-condition (spec.condition {total = total} {name = bytes} {s1 = s1} {op = op} skips label op_reads operand_reads) free test frames o =
@@ -200,7 +200,7 @@ mutual
       ∙ ap (λ x. runs total t (between (after_chart (chart.par (with_diagrams (u ∷ us) (chart.more tree others)))) frames x)) (sym (noted-joined o f g))
 
   runs-cases : {total depth : ℕ} {s t : List ℕ} {out : Offsets} {cases : Cases} → ReadsCases total depth s t cases out
-      → (u : Cond × Diagram) (us : List (Cond × Diagram)) (frames : List Frame) (o : Firsts) → suc (length frames) + depth ≡ MAX_DEPTH
+      → (u : Condition × Diagram) (us : List (Condition × Diagram)) (frames : List Frame) (o : Firsts) → suc (length frames) + depth ≡ MAX_DEPTH
       → runs total s (between (a_name (of_sel (u ∷ us))) frames o) ≡ runs total t (between (after_chart (chart.sel (with_cases (u ∷ us) cases))) frames (noted o out))
   runs-cases (spec.last_case {total = total} {s1 = s1} {t = t} {d = tree} {offsets = offsets} skips colon reads closes) u us frames o deep =
       let kept = noted o offsets in

@@ -2,7 +2,7 @@
 use Rattle.std.proofs.Common.{◌≡◌, ℕ, zero, suc, ◌-◌, ◌<◌, ◌≤◌, List, [], ◌∷◌, ◌++◌, Bool, true, ◌&&◌, ◌↔◌, length, refl, sym, ap, ◌∙◌, subst, arith}
 use Rattle.std.{specs.Prelude.nat_le, specs.Prelude.nat_lt, specs.Prelude.slice_index_or, specs.Prelude.if◌then◌else◌, specs.List.list_all, specs.List.AllByRecursion, proofs.lemmas.List.Folds.list_all-append, proofs.lemmas.Bool.Decides.nat_tests, proofs.lemmas.Bool.and_parts}
 use Rattle.batch_text.specs.NumberText.{number_of}
-use Rattle.batch_recipe.specs.{Conditions.Name, declared.chart.TheConstants.MAX_TURNS, declared.condition.Cond.Cond, declared.condition.Term.Term, declared.scaling.TheConstants.MAX_VALUE, Diagram.Diagram, Diagram.seq, Diagram.sel, Diagram.Diagrams, Diagram.none, Diagram.more, Diagram.Cases, Diagram.when, WellFormed.is_among, WellFormed.is_condition, WellFormed.is_chart, WellFormed.are_charts, WellFormed.are_cases, WellFormed.has_no_par}
+use Rattle.batch_recipe.specs.{Conditions.Name, declared.chart.TheConstants.MAX_TURNS, declared.condition.Condition.Condition, declared.condition.Term.Term, declared.scaling.TheConstants.MAX_VALUE, Diagram.Diagram, Diagram.seq, Diagram.sel, Diagram.Diagrams, Diagram.none, Diagram.more, Diagram.Cases, Diagram.when, WellFormed.is_among, WellFormed.is_condition, WellFormed.is_chart, WellFormed.are_charts, WellFormed.are_cases, WellFormed.has_no_par}
 use Rattle.batch_reader.specs.{ChartGrammar.Offsets, ChartGrammar.IsLabel, ChartGrammar.ReadsTerm, ChartGrammar.ReadsCond, ChartGrammar.Reads, ChartGrammar.ReadsBranches, ChartGrammar.ReadsCases, ChartGrammar.IsChartWithPars, ChartGrammar.IsChart, ChartForm.labels_of_chart, ChartForm.labels_of_all, ChartForm.labels_of_chart_cases, ChartForm.names_compared, ChartForm.values_of_chart, ChartForm.values_of_all, ChartForm.values_of_cases, ChartForm.IsFormed}
 use Rattle.batch_reader.specs.ChartGrammar as spec
 
@@ -37,7 +37,7 @@ and_with_true x = grind arith
 term_no_pars : {total : ℕ} {s t : List ℕ} {x : Term} {o : Offsets} → ReadsTerm total s t x o → o.pars ≡ []
 term_no_pars h = grind arith
 
-condition_no_pars : {total : ℕ} {s t : List ℕ} {c : Cond} {o : Offsets} → ReadsCond total s t c o → o.pars ≡ []
+condition_no_pars : {total : ℕ} {s t : List ℕ} {c : Condition} {o : Offsets} → ReadsCond total s t c o → o.pars ≡ []
 condition_no_pars (spec.condition skips is_label op x) = term_no_pars x
 
 mutual
@@ -78,7 +78,7 @@ both_labels : (xs ys : List Name) → AreLabels xs → AreLabels ys → AreLabel
 both_labels [] ys f g = g
 both_labels (x ∷ xs) ys f g = (f.0, both_labels xs ys f.1 g)
 
-condition_names : {total : ℕ} {s t : List ℕ} {c : Cond} {o : Offsets} → ReadsCond total s t c o → AreLabels (names_compared c)
+condition_names : {total : ℕ} {s t : List ℕ} {c : Condition} {o : Offsets} → ReadsCond total s t c o → AreLabels (names_compared c)
 condition_names (spec.condition skips is_label op (spec.named skips2 is_label2)) = (is_label, (is_label2, tt))
 condition_names (spec.condition skips is_label op (spec.number digits skips2 number)) = (is_label, tt)
 
@@ -149,7 +149,7 @@ module _ (labels values : List Name) where
       let v = each (is_among values) vs vs2 h.1 in
       ((l.0, v.0), (l.1, v.1))
 
-  condition_limits : {total : ℕ} {s t : List ℕ} {c : Cond} {o : Offsets} → ReadsCond total s t c o → o.outside ≡ [] → list_all (is_among values) (names_compared c) ≡ true → is_condition values c ≡ true
+  condition_limits : {total : ℕ} {s t : List ℕ} {c : Condition} {o : Offsets} → ReadsCond total s t c o → o.outside ≡ [] → list_all (is_among values) (names_compared c) ≡ true → is_condition values c ≡ true
   condition_limits (spec.condition {name = name} skips is_label op (spec.named {name = name2} skips2 is_label2)) within h =
       let first = and_parts (is_among values name) _ h in
       let second = and_parts (is_among values name2) true first.1 in

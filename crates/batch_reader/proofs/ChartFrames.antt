@@ -1,7 +1,7 @@
 -- The stack and the charts read so far as lists.
 use Rattle.std.proofs.Common.{◌≡◌, ℕ, ◌+◌, List, [], ◌∷◌, ◌++◌, length, map, reverse, get_or, set, take, Some, refl, sym, ap, ◌∙◌, arith, rules, Vec, Box}
 use Rattle.std.{proofs.lemmas.List.reverse-append, proofs.lemmas.List.map-append, proofs.lemmas.List.length-reverse, proofs.lemmas.List.length-map, proofs.lemmas.List.length-set, proofs.lemmas.List.take_all, proofs.lemmas.List.take_more, proofs.lemmas.List.take_more_set, specs.Global.Global}
-use Rattle.batch_recipe.specs.{declared.condition.Cond.Cond, declared.chart.Chart.Chart, declared.chart.Chart.the_lemmas, Diagram.diagram_of, Diagram.diagrams_of, Diagram.cases_of}
+use Rattle.batch_recipe.specs.{declared.condition.Condition.Condition, declared.chart.Chart.Chart, declared.chart.Chart.the_lemmas, Diagram.diagram_of, Diagram.diagrams_of, Diagram.cases_of}
 use Rattle.batch_recipe.specs.declared.chart.Chart as Made
 use Rattle.batch_recipe.specs.Diagram as chart
 use Rattle.batch_reader.specs.{declared.frame.Frame.Frame, ChartMachine.a_chart, ChartMachine.take_comma, ChartView.frame_view, ChartView.frames_view, ChartView.diagrams_view, ChartView.cases_view}
@@ -51,7 +51,7 @@ comma_in_par frames n v w c last at added =
     let charts : diagrams_view w.items ≡ diagrams_view v.items ++ diagram_of c ∷ [] = ap diagrams_view added ∙ diagrams_view_last v.items c in
     rw (before, innermost_set frames n (frame.Par w) last, charts) refl
 
-pub cases_view_last : (cases : List (Cond × Chart)) (c : Cond) (t : Chart) → cases_view (cases ++ (c, t) ∷ []) ≡ cases_view cases ++ (c, diagram_of t) ∷ []
+pub cases_view_last : (cases : List (Condition × Chart)) (c : Condition) (t : Chart) → cases_view (cases ++ (c, t) ∷ []) ≡ cases_view cases ++ (c, diagram_of t) ∷ []
 cases_view_last cases c t = grind (arith, map-append)
 
 pub diagram_of_seq : (v : Box (Vec Chart Global) Global) → diagram_of (Made.Seq v) ≡ chart.seq (diagrams_of (diagrams_view v.value.items))
@@ -60,9 +60,9 @@ diagram_of_seq v = search (rules, the_lemmas)
 pub diagram_of_par : (v : Box (Vec Chart Global) Global) → diagram_of (Made.Par v) ≡ chart.par (diagrams_of (diagrams_view v.value.items))
 diagram_of_par v = search (rules, the_lemmas)
 
-pub diagram_of_sel : (v : Box (Vec (Cond × Chart) Global) Global) (b : Box Chart Global)
+pub diagram_of_sel : (v : Box (Vec (Condition × Chart) Global) Global) (b : Box Chart Global)
     → diagram_of (Made.Sel v b) ≡ chart.sel (cases_of (cases_view v.value.items) (diagram_of b.value))
 diagram_of_sel v b = search (rules, the_lemmas)
 
-pub diagram_of_loop : (n : ℕ) (b : Box (Cond × Chart) Global) → diagram_of (Made.Loop n b) ≡ chart.loop n b.value.0 (diagram_of b.value.1)
+pub diagram_of_loop : (n : ℕ) (b : Box (Condition × Chart) Global) → diagram_of (Made.Loop n b) ≡ chart.loop n b.value.0 (diagram_of b.value.1)
 diagram_of_loop n b = search (rules, the_lemmas)

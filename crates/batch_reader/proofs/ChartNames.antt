@@ -2,11 +2,11 @@
 use Rattle.std.proofs.Common.{arith, ◌≡◌, ℕ, ◌-◌, nat_le, nat_lt, Bool, true, ◌&&◌, List, [], ◌∷◌, ◌++◌, map, refl, sym, ap, ◌∙◌}
 use Rattle.std.{proofs.lemmas.List.Folds.list_all-append, specs.List.list_all}
 use Rattle.batch_reader.{specs.ChartForm.labels_of_chart, specs.ChartForm.labels_of_all, specs.ChartForm.labels_of_chart_cases, specs.ChartForm.names_compared, specs.ChartForm.values_of_chart, specs.ChartForm.values_of_all, specs.ChartForm.values_of_cases, specs.ChartForm.IsFormed, specs.Naming.is_declared, proofs.Conjunctions.both_true, proofs.Conjunctions.and_true, proofs.Conjunctions.same_test, proofs.Conjunctions.cross, proofs.Conjunctions.cross_five, proofs.Conjunctions.first_of_three}
-use Rattle.batch_recipe.specs.{Conditions.Name, Diagram.Diagram, Diagram.label, Diagram.skip, Diagram.seq, Diagram.par, Diagram.sel, Diagram.loop, Diagram.Diagrams, Diagram.none, Diagram.more, Diagram.Cases, Diagram.otherwise, Diagram.when, Diagram.diagram_of, Diagram.diagrams_of, Diagram.cases_of, WellFormed.is_among, WellFormed.is_condition, WellFormed.is_chart, WellFormed.are_charts, WellFormed.are_cases, declared.chart.Chart.Chart, declared.condition.Cond.Cond, declared.condition.Term.Term, declared.condition.Term.TheVariants.Named, declared.condition.Term.TheVariants.Number, declared.scaling.TheConstants.MAX_VALUE}
+use Rattle.batch_recipe.specs.{Conditions.Name, Diagram.Diagram, Diagram.label, Diagram.skip, Diagram.seq, Diagram.par, Diagram.sel, Diagram.loop, Diagram.Diagrams, Diagram.none, Diagram.more, Diagram.Cases, Diagram.otherwise, Diagram.when, Diagram.diagram_of, Diagram.diagrams_of, Diagram.cases_of, WellFormed.is_among, WellFormed.is_condition, WellFormed.is_chart, WellFormed.are_charts, WellFormed.are_cases, declared.chart.Chart.Chart, declared.condition.Condition.Condition, declared.condition.Term.Term, declared.condition.Term.TheVariants.Named, declared.condition.Term.TheVariants.Number, declared.scaling.TheConstants.MAX_VALUE}
 
 module _ (labels values : List Name) where
   -- the test of one branch of a selection
-  abbrev pub is_case_declared : Cond × Chart → Bool
+  abbrev pub is_case_declared : Condition × Chart → Bool
   is_case_declared choice = list_all (is_among values) (names_compared choice.0) && is_declared labels values (diagram_of choice.1)
 
   declared_append : (ls ls2 vs vs2 : List Name)
@@ -21,7 +21,7 @@ module _ (labels values : List Name) where
   branches_declared (c ∷ cs) = grind (arith, branches_declared cs, declared_append)
 
   -- the branches of a `sel`
-  pub cases_declared : (choices : List (Cond × Chart)) (last : Diagram)
+  pub cases_declared : (choices : List (Condition × Chart)) (last : Diagram)
       → (list_all is_case_declared choices && is_declared labels values last)
       ≡ is_declared labels values (sel (cases_of (map (λ choice. (choice.0, diagram_of choice.1)) choices) last))
   cases_declared [] last = refl
@@ -52,7 +52,7 @@ module _ (labels values : List Name) where
       → list_all (is_among values) (elim t [ Named name ↦ name ∷ [] | Number n ↦ [] ]) ≡ true
   term_named t h = grind (arith, and_true)
 
-  condition_named : (c : Cond) → is_condition values c ≡ true → list_all (is_among values) (names_compared c) ≡ true
+  condition_named : (c : Condition) → is_condition values c ≡ true → list_all (is_among values) (names_compared c) ≡ true
   condition_named c h = grind (arith, both_true, and_true, term_named)
 
   mutual

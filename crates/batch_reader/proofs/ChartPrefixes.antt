@@ -2,7 +2,7 @@
 use Rattle.std.proofs.Common.{◌≡◌, ℕ, ◌+◌, ◌-◌, List, [], ◌∷◌, ◌++◌, length, Bool, true, false, ltb, Option, Some, None, option_and_then, option_map, eqb, refl, sym, ap, ◌∙◌, subst, arith}
 use Rattle.std.specs.{Prelude.codes, Char.is_ascii_alphabetic, Char.is_ascii_digit}
 use Rattle.batch_text.specs.{NumberText.number_of, declared.name.TheConstants.MAX_NAME_LEN, declared.number.TheConstants.MAX_DIGITS}
-use Rattle.batch_recipe.specs.{declared.condition.Op.Op, declared.condition.Op.TheVariants.Less, declared.condition.Op.TheVariants.AtMost, declared.condition.Op.TheVariants.Equal, declared.condition.Op.TheVariants.NotEqual, declared.condition.Op.TheVariants.AtLeast, declared.condition.Op.TheVariants.Greater, declared.condition.Cond.Cond, Diagram.Diagram, Diagram.diagrams_of, Diagram.cases_of}
+use Rattle.batch_recipe.specs.{declared.condition.Op.Op, declared.condition.Op.TheVariants.Less, declared.condition.Op.TheVariants.AtMost, declared.condition.Op.TheVariants.Equal, declared.condition.Op.TheVariants.NotEqual, declared.condition.Op.TheVariants.AtLeast, declared.condition.Op.TheVariants.Greater, declared.condition.Condition.Condition, Diagram.Diagram, Diagram.diagrams_of, Diagram.cases_of}
 use Rattle.batch_recipe.specs.declared.condition.Term.TheVariants as term
 use Rattle.batch_recipe.specs.Diagram as chart
 use Rattle.batch_reader.{specs.declared.firsts.Firsts.Firsts, specs.ChartGrammar.is_chart_space, specs.ChartGrammar.Offsets, specs.ChartGrammar.opens_par, specs.ChartGrammar.IsWideChart, specs.ChartMachine.Frame, specs.ChartMachine.in_seq, specs.ChartMachine.in_par, specs.ChartMachine.in_case, specs.ChartMachine.in_else, specs.ChartMachine.in_loop, specs.ChartMachine.Test, specs.ChartMachine.of_sel, specs.ChartMachine.of_loop, specs.ChartMachine.Want, specs.ChartMachine.a_chart, specs.ChartMachine.open_seq, specs.ChartMachine.open_par, specs.ChartMachine.open_sel, specs.ChartMachine.open_loop, specs.ChartMachine.a_turns, specs.ChartMachine.after_turns, specs.ChartMachine.a_name, specs.ChartMachine.an_operator, specs.ChartMachine.an_operand, specs.ChartMachine.after_condition, specs.ChartMachine.after_else, specs.ChartMachine.after_chart, specs.ChartMachine.State, specs.ChartMachine.Lexeme, specs.ChartMachine.nothing, specs.ChartMachine.letters, specs.ChartMachine.digits, specs.ChartMachine.less, specs.ChartMachine.more, specs.ChartMachine.slash, specs.ChartMachine.in_token, specs.ChartMachine.takes_word, specs.ChartMachine.takes_number, specs.ChartMachine.takes_operator, specs.ChartMachine.begin, specs.ChartMachine.step, specs.ChartMachine.finish, specs.ChartMachine.end_number, specs.ChartMachine.condition_of, specs.ChartMachine.noted, specs.ChartMachine.number_offsets, specs.ChartMachine.word_of, specs.ChartMachine.take_operator, specs.ChartMachine.take_sign, specs.ChartMachine.starts, specs.ChartMachine.go_on, specs.ChartMachine.continues, specs.ChartMachine.end_token, specs.ChartMachine.steps, specs.ChartMachine.start, proofs.ChartTokens.runs, proofs.ChartSoundness.word_cases, proofs.ChartSoundness.Leads, proofs.ChartSoundness.if_leads, proofs.ChartSoundness.sound, proofs.ChartCompleteness.runs-steps}
@@ -27,7 +27,7 @@ from_chart : (frames : List Frame) → CanEnd nothing a_chart frames
 unfolding runs step begin finish in_token
 from_chart frames = let r = closing frames (chart.label (codes "a")) in (codes "a " ++ r.0, r.1)
 
-from_condition : (test : Test) (c : Cond) (frames : List Frame) → CanEnd nothing (after_condition test c) frames
+from_condition : (test : Test) (c : Condition) (frames : List Frame) → CanEnd nothing (after_condition test c) frames
 unfolding runs step begin finish in_token
 from_condition (of_sel us) c frames = let r = from_chart (in_case us c ∷ frames) in (58 ∷ r.0, r.1)
 from_condition (of_loop n) c frames = let r = from_chart (in_loop n c ∷ frames) in (44 ∷ r.0, r.1)

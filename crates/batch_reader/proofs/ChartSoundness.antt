@@ -2,7 +2,7 @@
 use Rattle.std.proofs.Common.{◌≡◌, ℕ, suc, ◌+◌, ◌-◌, List, [], ◌∷◌, ◌++◌, length, Bool, true, false, ltb, eqb, Option, Some, None, option_map, option_and_then, refl, sym, ap, ◌∙◌, subst, append_assoc, append-nil, arith, length-append}
 use Rattle.std.{specs.Prelude.codes, specs.Prelude.⊤, specs.Prelude.if◌then◌else◌, specs.Str.bytes_eq, specs.Char.is_ascii_alphabetic, specs.Char.is_ascii_digit, proofs.lemmas.Slice.Eq.bytes_eq-Decides, proofs.lemmas.Bool.Decides.nat_tests, proofs.lemmas.Bool.Decides.Decides-eqb, proofs.lemmas.Bool.ltb-true}
 use Rattle.batch_text.specs.{NameText.IsName, NumberText.number_of, NumberText.IsNumber, declared.name.TheConstants.MAX_NAME_LEN, declared.number.TheConstants.MAX_DIGITS}
-use Rattle.batch_recipe.specs.{declared.chart.TheConstants.MAX_DEPTH, declared.chart.TheConstants.MAX_TURNS, declared.condition.Op.Op, declared.condition.Op.TheVariants.Less, declared.condition.Op.TheVariants.AtMost, declared.condition.Op.TheVariants.Equal, declared.condition.Op.TheVariants.NotEqual, declared.condition.Op.TheVariants.AtLeast, declared.condition.Op.TheVariants.Greater, declared.condition.Term.Term, declared.condition.Cond.Cond, Diagram.Diagram, Diagram.Diagrams, Diagram.Cases}
+use Rattle.batch_recipe.specs.{declared.chart.TheConstants.MAX_DEPTH, declared.chart.TheConstants.MAX_TURNS, declared.condition.Op.Op, declared.condition.Op.TheVariants.Less, declared.condition.Op.TheVariants.AtMost, declared.condition.Op.TheVariants.Equal, declared.condition.Op.TheVariants.NotEqual, declared.condition.Op.TheVariants.AtLeast, declared.condition.Op.TheVariants.Greater, declared.condition.Term.Term, declared.condition.Condition.Condition, Diagram.Diagram, Diagram.Diagrams, Diagram.Cases}
 use Rattle.batch_recipe.specs.Diagram as chart
 use Rattle.batch_reader.{specs.declared.word.Word.Word, specs.declared.firsts.Firsts.Firsts, specs.ChartGrammar.is_chart_space, specs.ChartGrammar.Offsets, specs.ChartGrammar.no_offsets, specs.ChartGrammar.offsets_joined, specs.ChartGrammar.opens_par, specs.ChartGrammar.ranged, specs.ChartGrammar.IsLabel, specs.ChartGrammar.Skips, specs.ChartGrammar.here, specs.ChartGrammar.space, specs.ChartGrammar.ReadsOp, specs.ChartGrammar.ReadsTerm, specs.ChartGrammar.Reads, specs.ChartGrammar.ReadsBranches, specs.ChartGrammar.ReadsCases, specs.ChartGrammar.IsWideChart, specs.ChartMachine.Frame, specs.ChartMachine.in_seq, specs.ChartMachine.in_par, specs.ChartMachine.in_case, specs.ChartMachine.in_else, specs.ChartMachine.in_loop, specs.ChartMachine.Test, specs.ChartMachine.of_sel, specs.ChartMachine.of_loop, specs.ChartMachine.Lexeme, specs.ChartMachine.IsGood, specs.ChartMachine.nothing, specs.ChartMachine.letters, specs.ChartMachine.digits, specs.ChartMachine.less, specs.ChartMachine.more, specs.ChartMachine.slash, specs.ChartMachine.begin, specs.ChartMachine.end_token, specs.ChartMachine.end_number, specs.ChartMachine.continues, specs.ChartMachine.go_on, specs.ChartMachine.step, specs.ChartMachine.finish, specs.ChartMachine.result_of, specs.ChartMachine.starts, specs.ChartMachine.takes_word, specs.ChartMachine.takes_number, specs.ChartMachine.takes_operator, specs.ChartMachine.in_token, specs.ChartMachine.start, specs.ChartMachine.Want, specs.ChartMachine.a_chart, specs.ChartMachine.open_seq, specs.ChartMachine.open_par, specs.ChartMachine.open_sel, specs.ChartMachine.open_loop, specs.ChartMachine.a_turns, specs.ChartMachine.after_turns, specs.ChartMachine.a_name, specs.ChartMachine.an_operator, specs.ChartMachine.an_operand, specs.ChartMachine.after_condition, specs.ChartMachine.after_else, specs.ChartMachine.after_chart, specs.ChartMachine.State, specs.ChartMachine.no_firsts, specs.ChartMachine.noted, specs.ChartMachine.number_offsets, specs.ChartMachine.sign_offsets, specs.ChartMachine.word_of, specs.ChartMachine.take_word, specs.ChartMachine.take_chart_word, specs.ChartMachine.take_name_word, specs.ChartMachine.take_operand_word, specs.ChartMachine.take_number, specs.ChartMachine.take_operator, specs.ChartMachine.take_sign, specs.ChartMachine.take_comma, specs.ChartMachine.take_close, specs.ChartMachine.take_else, specs.ChartMachine.condition_of, specs.ChartMachine.deeper, specs.ChartMachine.After, specs.ChartMachine.when_is, proofs.ChartTexts.name_more, proofs.ChartTexts.name_of_letter, proofs.ChartTexts.number_more, proofs.ChartTexts.number_of_digit, proofs.ChartWords.word_label, proofs.ChartTokens.runs, proofs.ChartCompleteness.with_diagrams, proofs.ChartCompleteness.with_diagrams-last, proofs.ChartCompleteness.diagrams_of-last, proofs.ChartCompleteness.with_cases, proofs.ChartCompleteness.with_cases-last, proofs.ChartCompleteness.cases_of-is, proofs.ChartCompleteness.noted-joined}
 use Rattle.batch_reader.specs.declared.word.Word.TheVariants as word
@@ -91,12 +91,12 @@ module _ (total : ℕ) (whole : Diagram) where
     goes_on_par : {us : List Diagram} {frames : List Frame} {t v : Diagram} {ts : Diagrams} {s s1 s2 : List ℕ} {f g : Offsets}
         → Skips s (44 ∷ s1) → ReadsBranches total (within (in_par us ∷ frames)) s1 s2 (chart.more v ts) f
         → Completes frames (chart.par (with_diagrams us (chart.more t (chart.more v ts)))) s2 g → Completes (in_par us ∷ frames) t s (offsets_joined f g)
-    goes_on_case : {us : List (Cond × Diagram)} {c : Cond} {frames : List Frame} {t : Diagram} {ts : Cases} {s s1 s2 : List ℕ} {f g : Offsets}
+    goes_on_case : {us : List (Condition × Diagram)} {c : Condition} {frames : List Frame} {t : Diagram} {ts : Cases} {s s1 s2 : List ℕ} {f g : Offsets}
         → Skips s (44 ∷ s1) → ReadsCases total (within (in_case us c ∷ frames)) s1 s2 ts f
         → Completes frames (chart.sel (with_cases us (chart.when c t ts))) s2 g → Completes (in_case us c ∷ frames) t s (offsets_joined f g)
-    closes_else : {us : List (Cond × Diagram)} {frames : List Frame} {t : Diagram} {s s1 : List ℕ} {out : Offsets}
+    closes_else : {us : List (Condition × Diagram)} {frames : List Frame} {t : Diagram} {s s1 : List ℕ} {out : Offsets}
         → Skips s (41 ∷ s1) → Completes frames (chart.sel (with_cases us (chart.otherwise t))) s1 out → Completes (in_else us ∷ frames) t s out
-    closes_loop : {n : ℕ} {c : Cond} {frames : List Frame} {t : Diagram} {s s1 : List ℕ} {out : Offsets}
+    closes_loop : {n : ℕ} {c : Condition} {frames : List Frame} {t : Diagram} {s s1 : List ℕ} {out : Offsets}
         → Skips s (41 ∷ s1) → Completes frames (chart.loop n c t) s1 out → Completes (in_loop n c ∷ frames) t s out
 
   -- the rest of a text from the wanted token on
@@ -111,13 +111,13 @@ module _ (total : ℕ) (whole : Diagram) where
         → From a_turns frames s (offsets_joined (ranged 1 MAX_TURNS (number_of bytes) (total - length (bytes ++ s1))) g)
     from_after_turns : {n : ℕ} {frames : List Frame} {s s1 : List ℕ} {out : Offsets} → Skips s (44 ∷ s1) → From (a_name (of_loop n)) frames s1 out → From (after_turns n) frames s out
     from_name : {test : Test} {bytes : List ℕ} {frames : List Frame} {s s1 : List ℕ} {out : Offsets} → Skips s (bytes ++ s1) → IsLabel bytes → From (an_operator test bytes) frames s1 out → From (a_name test) frames s out
-    from_else : {u : Cond × Diagram} {us : List (Cond × Diagram)} {frames : List Frame} {s s1 : List ℕ} {out : Offsets} → Skips s (codes "else" ++ s1) → From (after_else (u ∷ us)) frames s1 out → From (a_name (of_sel (u ∷ us))) frames s out
+    from_else : {u : Condition × Diagram} {us : List (Condition × Diagram)} {frames : List Frame} {s s1 : List ℕ} {out : Offsets} → Skips s (codes "else" ++ s1) → From (after_else (u ∷ us)) frames s1 out → From (a_name (of_sel (u ∷ us))) frames s out
     from_operator : {test : Test} {bytes : List ℕ} {op : Op} {frames : List Frame} {s s1 : List ℕ} {out : Offsets} → ReadsOp s s1 op → From (an_operand test bytes op) frames s1 out → From (an_operator test bytes) frames s out
     from_operand : {test : Test} {bytes : List ℕ} {op : Op} {x : Term} {frames : List Frame} {s s1 : List ℕ} {f g : Offsets}
         → ReadsTerm total s s1 x f → From (after_condition test (condition_of bytes op x)) frames s1 g → From (an_operand test bytes op) frames s (offsets_joined f g)
-    from_case : {us : List (Cond × Diagram)} {c : Cond} {frames : List Frame} {s s1 : List ℕ} {out : Offsets} → Skips s (58 ∷ s1) → From a_chart (in_case us c ∷ frames) s1 out → From (after_condition (of_sel us) c) frames s out
-    from_body : {n : ℕ} {c : Cond} {frames : List Frame} {s s1 : List ℕ} {out : Offsets} → Skips s (44 ∷ s1) → From a_chart (in_loop n c ∷ frames) s1 out → From (after_condition (of_loop n) c) frames s out
-    from_after_else : {us : List (Cond × Diagram)} {frames : List Frame} {s s1 : List ℕ} {out : Offsets} → Skips s (58 ∷ s1) → From a_chart (in_else us ∷ frames) s1 out → From (after_else us) frames s out
+    from_case : {us : List (Condition × Diagram)} {c : Condition} {frames : List Frame} {s s1 : List ℕ} {out : Offsets} → Skips s (58 ∷ s1) → From a_chart (in_case us c ∷ frames) s1 out → From (after_condition (of_sel us) c) frames s out
+    from_body : {n : ℕ} {c : Condition} {frames : List Frame} {s s1 : List ℕ} {out : Offsets} → Skips s (44 ∷ s1) → From a_chart (in_loop n c ∷ frames) s1 out → From (after_condition (of_loop n) c) frames s out
+    from_after_else : {us : List (Condition × Diagram)} {frames : List Frame} {s s1 : List ℕ} {out : Offsets} → Skips s (58 ∷ s1) → From a_chart (in_else us ∷ frames) s1 out → From (after_else us) frames s out
 
   -- ---- forms from their parts
 
@@ -165,7 +165,7 @@ module _ (total : ℕ) (whole : Diagram) where
   par_branches_from us (from_chart {f = f} {t = t} reads (goes_on_par {v = v} {ts = ts} {s2 = s2} {f = a} {g = b} comma branches rest)) P use_it =
       use_it t (chart.more v ts) s2 (offsets_joined f a) b (spec.next reads comma branches) rest (joined_assoc f a b)
 
-  cases_from : (us : List (Cond × Diagram)) (c : Cond) {frames : List Frame} {s : List ℕ} {out : Offsets} → From (a_name (of_sel us)) frames s out
+  cases_from : (us : List (Condition × Diagram)) (c : Condition) {frames : List Frame} {s : List ℕ} {out : Offsets} → From (a_name (of_sel us)) frames s out
       → (P : Type 0) → ((ts : Cases) (s1 : List ℕ) (f g : Offsets) → ReadsCases total (within (in_case us c ∷ frames)) s s1 ts f → Completes frames (chart.sel (with_cases us ts)) s1 g → offsets_joined f g ≡ out → P) → P
   cases_from us c (from_else skips (from_after_else colon (from_chart {f = f} {t = t} reads (closes_else {s1 = s1} {out = out} closes rest)))) P use_it =
       use_it (chart.otherwise t) s1 f out (spec.last_case skips colon reads closes) rest refl

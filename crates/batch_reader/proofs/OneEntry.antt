@@ -2,7 +2,7 @@
 use Rattle.std.proofs.Common.{◌≡◌, ℕ, ◌<◌, ◌≤◌, true, List, [], ◌∷◌, length, Option, Some, None, refl, ap₂, arith, nat_le, position}
 use Rattle.std.{proofs.lemmas.List.map-id, proofs.lemmas.Bool.Decides.nat_tests, specs.Option.option_and_then}
 use Rattle.toml.specs.{Data.Data, Data.Items, Data.Members, Data.get_member, Data.as_str, Data.as_table, View.items_view, declared.value.Value.Value}
-use Rattle.batch_recipe.specs.{Diagram.Diagram, declared.need.Need.Need, Needs.have_units, declared.need.TheConstants.MAX_UNITS}
+use Rattle.batch_recipe.specs.{Diagram.Diagram, declared.need.Need.Need, Needs.have_units, declared.need.TheConstants.MAX_NEED_UNITS}
 use Rattle.batch_reader.{proofs.ChartReader.at_most_one, specs.ChartGrammar.IsChart, proofs.Items.AllItems_same, specs.Entries.AllItems, specs.Entries.IsNameItem, specs.Entries.HasLabel, specs.Entries.HasName, specs.Entries.HasNameOr, specs.Entries.HasChart, specs.Entries.HasFew, specs.Entries.HasFewNames, specs.Entries.HasFewNeeds, specs.Entries.IsNeedItem, specs.Entries.HasTable, specs.Entries.items_at, specs.Faults.few_names_fault, specs.TableFaults.count_items, specs.declared.fault.EntryFault.TheVariants.OutOfLimit, specs.declared.fault.EntryFault.TheVariants.WrongKind, specs.NeedText.IsNeedCut, specs.NeedText.is_star}
 
 -- a list has as many items as it says names
@@ -88,14 +88,14 @@ pub HasFewNeeds_unique : (key : List ℕ) (ms : Members) (most : ℕ) (xs ys : L
 HasFewNeeds_unique = HasFew_unique IsNeedItem IsNeedItem_unique
 
 -- needs that texts say have units
-units_of_cut : (star : Option ℕ) (text : List ℕ) (need : Need) → IsNeedCut star text need → (1 ≤ need.units) × (need.units ≤ MAX_UNITS)
+units_of_cut : (star : Option ℕ) (text : List ℕ) (need : Need) → IsNeedCut star text need → (1 ≤ need.units) × (need.units ≤ MAX_NEED_UNITS)
 units_of_cut star text need h = grind arith
 
 pub needs_have_units : (vs : List Value) (needs : List Need) → AllItems IsNeedItem (items_view vs) needs → have_units needs ≡ true
 needs_have_units (v ∷ vs) (need ∷ needs) h =
     let units = units_of_cut (position is_star h.0.text) h.0.text need h.0.says in
     let some : nat_le 1 need.units ≡ true = grind (arith, nat_tests, units.0) in
-    let few : nat_le need.units MAX_UNITS ≡ true = grind (arith, nat_tests, units.1) in
+    let few : nat_le need.units MAX_NEED_UNITS ≡ true = grind (arith, nat_tests, units.1) in
     rw (some, few) (needs_have_units vs needs h.1)
 needs_have_units vs needs h = grind arith
 

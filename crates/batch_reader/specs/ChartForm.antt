@@ -5,7 +5,7 @@ use Rattle.batch_recipe.specs.Conditions.{Name}
 use Rattle.batch_recipe.specs.Diagram.{Diagram, label, skip, seq, par, sel, loop, Diagrams, none, more, Cases, otherwise, when}
 use Rattle.batch_recipe.specs.WellFormed.{is_among, is_chart}
 use Rattle.batch_recipe.specs.declared.chart.TheConstants.{MAX_DEPTH}
-use Rattle.batch_recipe.specs.declared.condition.Cond.{Cond}
+use Rattle.batch_recipe.specs.declared.condition.Condition.{Condition}
 use Rattle.batch_recipe.specs.declared.condition.Term.TheVariants.{Named, Number}
 use Rattle.batch_reader.specs.ChartGrammar.{IsLabel}
 
@@ -28,7 +28,7 @@ abbrev mutual
   labels_of_chart_cases (when c d cs) = labels_of_chart d ++ labels_of_chart_cases cs
 
 -- the names that a condition compares
-abbrev pub names_compared : Cond → List Name
+abbrev pub names_compared : Condition → List Name
 names_compared c = c.name ∷ elim c.term [ Named name ↦ name ∷ [] | Number n ↦ [] ]
 
 -- the names that the conditions of a chart compare, in order

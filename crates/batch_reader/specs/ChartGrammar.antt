@@ -6,7 +6,7 @@ use Rattle.batch_recipe.specs.declared.condition.Op.{Op}
 use Rattle.batch_recipe.specs.declared.condition.Op.TheVariants.{Less, AtMost, Equal, NotEqual, AtLeast, Greater}
 use Rattle.batch_recipe.specs.declared.condition.Term.{Term}
 use Rattle.batch_recipe.specs.declared.condition.Term.TheVariants as term
-use Rattle.batch_recipe.specs.declared.condition.Cond.{Cond}
+use Rattle.batch_recipe.specs.declared.condition.Condition.{Condition}
 use Rattle.batch_recipe.specs.declared.chart.TheConstants.{MAX_DEPTH, MAX_TURNS}
 use Rattle.batch_recipe.specs.declared.scaling.TheConstants.{MAX_VALUE}
 use Rattle.batch_recipe.specs.Diagram.{Diagram, Diagrams, Cases}
@@ -72,7 +72,7 @@ pub data ReadsTerm : ℕ → List ℕ → List ℕ → Term → Offsets → Type
       → ReadsTerm total s t (term.Number (number_of digits)) (ranged 0 MAX_VALUE (number_of digits) (total - length (digits ++ t)))
 
 -- name op term
-pub data ReadsCond : ℕ → List ℕ → List ℕ → Cond → Offsets → Type 0 where
+pub data ReadsCond : ℕ → List ℕ → List ℕ → Condition → Offsets → Type 0 where
   condition : {total : ℕ} {name s s1 s2 t : List ℕ} {op : Op} {term : Term} {offsets : Offsets}
       → Skips s (name ++ s1) → IsLabel name → ReadsOp s1 s2 op → ReadsTerm total s2 t term offsets
       → ReadsCond total s t (record { name = name; op = op; term = term }) offsets
@@ -88,10 +88,10 @@ mutual
     par : {total depth : ℕ} {s s1 s2 t : List ℕ} {first second : Diagram} {others : Diagrams} {offsets : Offsets}
         → Skips s (codes "par" ++ s1) → Skips s1 (codes "(" ++ s2) → ReadsBranches total depth s2 t (chart.more first (chart.more second others)) offsets
         → Reads total (suc depth) s t (chart.par (chart.more first (chart.more second others))) (offsets_joined (opens_par (total - length (codes "(" ++ s2))) offsets)
-    sel : {total depth : ℕ} {s s1 s2 t : List ℕ} {c : Cond} {first : Diagram} {others : Cases} {offsets : Offsets}
+    sel : {total depth : ℕ} {s s1 s2 t : List ℕ} {c : Condition} {first : Diagram} {others : Cases} {offsets : Offsets}
         → Skips s (codes "sel" ++ s1) → Skips s1 (codes "(" ++ s2) → ReadsCases total depth s2 t (chart.when c first others) offsets
         → Reads total (suc depth) s t (chart.sel (chart.when c first others)) offsets
-    loop : {total depth : ℕ} {s s1 s2 s3 s4 s5 s6 s7 t : List ℕ} {c : Cond} {body : Diagram} {offsets offsets2 : Offsets} (digits : List ℕ)
+    loop : {total depth : ℕ} {s s1 s2 s3 s4 s5 s6 s7 t : List ℕ} {c : Condition} {body : Diagram} {offsets offsets2 : Offsets} (digits : List ℕ)
         → Skips s (codes "loop" ++ s1) → Skips s1 (codes "(" ++ s2) → Skips s2 (digits ++ s3) → IsNumber digits
         → Skips s3 (codes "," ++ s4) → ReadsCond total s4 s5 c offsets
         → Skips s5 (codes "," ++ s6) → Reads total depth s6 s7 body offsets2 → Skips s7 (codes ")" ++ t)
@@ -112,7 +112,7 @@ mutual
     last_case : {total depth : ℕ} {s s1 s2 s3 t : List ℕ} {d : Diagram} {offsets : Offsets}
         → Skips s (codes "else" ++ s1) → Skips s1 (codes ":" ++ s2) → Reads total depth s2 s3 d offsets → Skips s3 (codes ")" ++ t)
         → ReadsCases total depth s t (chart.otherwise d) offsets
-    next_case : {total depth : ℕ} {s s1 s2 s3 s4 t : List ℕ} {c : Cond} {d : Diagram} {others : Cases} {offsets offsets2 offsets3 : Offsets}
+    next_case : {total depth : ℕ} {s s1 s2 s3 s4 t : List ℕ} {c : Condition} {d : Diagram} {others : Cases} {offsets offsets2 offsets3 : Offsets}
         → ReadsCond total s s1 c offsets → Skips s1 (codes ":" ++ s2) → Reads total depth s2 s3 d offsets2
         → Skips s3 (codes "," ++ s4) → ReadsCases total depth s4 t others offsets3
         → ReadsCases total depth s t (chart.when c d others) (offsets_joined offsets (offsets_joined offsets2 offsets3))

@@ -10,7 +10,7 @@ use Rattle.batch_recipe.specs.declared.condition.Op.{Op}
 use Rattle.batch_recipe.specs.declared.condition.Op.TheVariants.{Less, AtMost, Equal, NotEqual, AtLeast, Greater}
 use Rattle.batch_recipe.specs.declared.condition.Term.{Term}
 use Rattle.batch_recipe.specs.declared.condition.Term.TheVariants as term
-use Rattle.batch_recipe.specs.declared.condition.Cond.{Cond}
+use Rattle.batch_recipe.specs.declared.condition.Condition.{Condition}
 use Rattle.batch_recipe.specs.declared.chart.TheConstants.{MAX_DEPTH, MAX_TURNS}
 use Rattle.batch_recipe.specs.declared.scaling.TheConstants.{MAX_VALUE}
 use Rattle.batch_recipe.specs.Diagram.{Diagram, Diagrams, Cases, diagrams_of, cases_of}
@@ -27,13 +27,13 @@ use Rattle.batch_reader.specs.declared.firsts.Firsts.{Firsts}
 pub data Frame : Type 0 where
   in_seq : List Diagram → Frame
   in_par : List Diagram → Frame
-  in_case : List (Cond × Diagram) → Cond → Frame
-  in_else : List (Cond × Diagram) → Frame
-  in_loop : ℕ → Cond → Frame
+  in_case : List (Condition × Diagram) → Condition → Frame
+  in_else : List (Condition × Diagram) → Frame
+  in_loop : ℕ → Condition → Frame
 
 -- the form whose condition is being read
 pub data Test : Type 0 where
-  of_sel : List (Cond × Diagram) → Test
+  of_sel : List (Condition × Diagram) → Test
   of_loop : ℕ → Test
 
 -- the token that has to come next
@@ -48,8 +48,8 @@ pub data Want : Type 0 where
   a_name : Test → Want
   an_operator : Test → List ℕ → Want
   an_operand : Test → List ℕ → Op → Want
-  after_condition : Test → Cond → Want
-  after_else : List (Cond × Diagram) → Want
+  after_condition : Test → Condition → Want
+  after_else : List (Condition × Diagram) → Want
   after_chart : Diagram → Want
 
 -- the next token as far as it has been read
@@ -129,7 +129,7 @@ take_name_word word.Sel bytes test = None
 take_name_word word.Loop bytes test = None
 take_name_word word.Else bytes test = take_else test
 
-abbrev pub condition_of : List ℕ → Op → Term → Cond
+abbrev pub condition_of : List ℕ → Op → Term → Condition
 condition_of n op x = record { name = n; op = op; term = x }
 
 abbrev pub take_operand_word : Word → List ℕ → Test → List ℕ → Op → Option Want

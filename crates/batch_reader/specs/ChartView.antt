@@ -1,6 +1,6 @@
 -- private: the machine's values for those of the reader of charts, without their places in memory.
 use Rattle.std.specs.Prelude.{◌≡◌, ℕ, List, map, reverse, Option, Some, None, Result, Ok, Err, slice_range}
-use Rattle.batch_recipe.specs.declared.condition.Cond.{Cond}
+use Rattle.batch_recipe.specs.declared.condition.Condition.{Condition}
 use Rattle.batch_recipe.specs.declared.chart.Chart.{Chart}
 use Rattle.batch_recipe.specs.Diagram.{Diagram, diagram_of}
 use Rattle.batch_reader.specs.ChartMachine.{State, Frame, in_seq, in_par, in_case, in_else, in_loop, Test, of_sel, of_loop}
@@ -23,7 +23,7 @@ use Rattle.batch_reader.specs.declared.chart_fault.Stop.TheVariants as stop
 abbrev pub diagrams_view : List Chart → List Diagram
 diagrams_view charts = map diagram_of charts
 
-abbrev pub cases_view : List (Cond × Chart) → List (Cond × Diagram)
+abbrev pub cases_view : List (Condition × Chart) → List (Condition × Diagram)
 cases_view cases = map (λ p. (p.0, diagram_of p.1)) cases
 
 abbrev pub frame_view : TheFrame → Frame

@@ -6,7 +6,7 @@ use Rattle.batch_recipe.specs.Conditions.{Name}
 use Rattle.batch_recipe.specs.Diagram.{Diagram}
 use Rattle.batch_recipe.specs.WellFormed.{value_names}
 use Rattle.batch_recipe.specs.declared.acts.Acts.{Acts}
-use Rattle.batch_recipe.specs.declared.need.TheConstants.{MAX_UNITS}
+use Rattle.batch_recipe.specs.declared.need.TheConstants.{MAX_NEED_UNITS}
 use Rattle.batch_recipe.specs.declared.quantity.Quantity.{Quantity}
 use Rattle.batch_recipe.specs.declared.role.Role.{Role}
 use Rattle.batch_reader.specs.ChartAnswer.{IsRead}
@@ -74,7 +74,7 @@ Tells Is Memory = ⊤
 -- this is wrong with the text as that of a number of units
 abbrev pub IsUnitsFault : List ℕ → EntryFault → Type 0
 IsUnitsFault text WrongKind = ¬ IsNumber text
-IsUnitsFault text OutOfLimit = IsNumber text × (1 ≤ number_of text → number_of text ≤ MAX_UNITS → ⊥)
+IsUnitsFault text OutOfLimit = IsNumber text × (1 ≤ number_of text → number_of text ≤ MAX_NEED_UNITS → ⊥)
 IsUnitsFault text _ = ⊥
 
 -- this is wrong with the text as that of a need

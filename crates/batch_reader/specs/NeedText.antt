@@ -3,7 +3,7 @@ use Rattle.std.specs.Prelude.{◌≡◌, ℕ, ◌+◌, ◌≤◌, Bool, nat_eq, 
 use Rattle.batch_text.specs.NameText.{IsName}
 use Rattle.batch_text.specs.NumberText.{IsNumber, number_of}
 use Rattle.batch_recipe.specs.declared.need.Need.{Need}
-use Rattle.batch_recipe.specs.declared.need.TheConstants.{MAX_UNITS}
+use Rattle.batch_recipe.specs.declared.need.TheConstants.{MAX_NEED_UNITS}
 
 -- the byte is `*`
 abbrev pub is_star : ℕ → Bool
@@ -14,7 +14,7 @@ pub record IsUnits (text : List ℕ) (units : ℕ) : Type 0 where
   pub number : IsNumber text
   pub value : units ≡ number_of text
   pub some : 1 ≤ units
-  pub few : units ≤ MAX_UNITS
+  pub few : units ≤ MAX_NEED_UNITS
 
 -- the name ends at the first star, and the number of units begins after it; without a star it is one unit
 abbrev pub IsNeedCut : Option ℕ → List ℕ → Need → Type 0

@@ -5,7 +5,7 @@ use Rattle.toml.specs.Data.{Data, Items, no_items, item, get_item, Members, get_
 use Rattle.batch_text.specs.NameText.{IsName}
 use Rattle.batch_text.specs.NumberText.{IsNumber, number_of}
 use Rattle.batch_recipe.specs.Diagram.{Diagram}
-use Rattle.batch_recipe.specs.declared.need.TheConstants.{MAX_UNITS}
+use Rattle.batch_recipe.specs.declared.need.TheConstants.{MAX_NEED_UNITS}
 use Rattle.batch_reader.specs.ChartAnswer.{HasFaultAt, IsOutsideAt, IsRead}
 use Rattle.batch_reader.specs.ChartGrammar.{IsLabel}
 use Rattle.batch_reader.specs.declared.chart_reading.TheConstants.{MAX_CHART_LEN}
@@ -48,7 +48,7 @@ IsNoNeedCut (Some star) text = ¬ (IsName (take star text) × IsNumber (drop (st
 -- the number after the star is out of range
 abbrev pub HasTooManyUnits : Option ℕ → List ℕ → Type 0
 HasTooManyUnits None text = ⊥
-HasTooManyUnits (Some star) text = IsNumber (drop (star + 1) text) × ((1 ≤ number_of (drop (star + 1) text)) → number_of (drop (star + 1) text) ≤ MAX_UNITS → ⊥)
+HasTooManyUnits (Some star) text = IsNumber (drop (star + 1) text) × ((1 ≤ number_of (drop (star + 1) text)) → number_of (drop (star + 1) text) ≤ MAX_NEED_UNITS → ⊥)
 
 abbrev pub IsNoNeed : Data → Type 0
 IsNoNeed d = (text : List ℕ) → as_str d ≡ Some text → IsNoNeedCut (position is_star text) text

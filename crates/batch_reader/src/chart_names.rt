@@ -6,7 +6,7 @@ ghost use Rattle.batch_recipe.specs.Diagram.{diagram_of};
 ghost use Rattle.batch_recipe.specs.WellFormed.{is_among};
 ghost use Rattle.batch_reader.specs.Naming.{is_declared};
 
-use batch_recipe::{Chart, Cond, Term};
+use batch_recipe::{Chart, Condition, Term};
 use batch_text::Name;
 use indexmap::IndexSet;
 
@@ -43,7 +43,7 @@ fn are_declared(charts: &[Chart], labels: &IndexSet<Name>, values: &IndexSet<Nam
 
 #[cycle(declared)]
 fn are_cases_declared(
-    choices: &[(Cond, Chart)],
+    choices: &[(Condition, Chart)],
     labels: &IndexSet<Name>,
     values: &IndexSet<Name>,
 ) -> bool
@@ -59,7 +59,7 @@ fn are_cases_declared(
 }
 
 /// Whether the names that a condition compares are among the values.
-fn compares_values(condition: &Cond, values: &IndexSet<Name>) -> bool
+fn compares_values(condition: &Condition, values: &IndexSet<Name>) -> bool
     ensures { result ≡ list_all (is_among values.now.keys) (names_compared condition.now) }
 {
     values.contains(&condition.name)

@@ -9,7 +9,7 @@ use crate::chart_fault::Stop;
 use crate::frame::Frame;
 use crate::stack::pop;
 use crate::want::Want;
-use batch_recipe::{Chart, Cond};
+use batch_recipe::{Chart, Condition};
 use std::alloc::{AllocError, Global};
 
 /// The parts of a form as a chart keeps them: in a box, with no room left over.
@@ -45,7 +45,11 @@ fn close_par(alloc: Global, mut charts: Vec<Chart>, last: Chart) -> Result<Chart
 
 /// The end of a `sel`.
 #[tactic(auto, using(crate::proofs::ChartFrames::diagram_of_sel))]
-fn close_sel(alloc: Global, cases: Vec<(Cond, Chart)>, last: Chart) -> Result<Chart, AllocError>
+fn close_sel(
+    alloc: Global,
+    cases: Vec<(Condition, Chart)>,
+    last: Chart,
+) -> Result<Chart, AllocError>
     ensures { IfOk result (λ whole. diagram_of whole ≡ chart.sel (cases_of (cases_view cases.items) (diagram_of last))) }
 {
     let choices = boxed(alloc, cases)?;
@@ -54,7 +58,12 @@ fn close_sel(alloc: Global, cases: Vec<(Cond, Chart)>, last: Chart) -> Result<Ch
 
 /// The end of a `loop`.
 #[tactic(auto, using(crate::proofs::ChartFrames::diagram_of_loop))]
-fn close_loop(alloc: Global, turns: u64, condition: Cond, body: Chart) -> Result<Chart, AllocError>
+fn close_loop(
+    alloc: Global,
+    turns: u64,
+    condition: Condition,
+    body: Chart,
+) -> Result<Chart, AllocError>
     ensures { IfOk result (λ whole. diagram_of whole ≡ chart.loop turns condition (diagram_of body)) }
 {
     Ok(Chart::Loop(turns, Box::new(alloc, (condition, body))?))

@@ -13,7 +13,7 @@ ghost use Rattle.batch_reader.specs.declared.keys.ValueForm.{ValueForm};
 
 use crate::fault::{EntryFault, Spot, TableFault};
 use crate::tables::items_at;
-use batch_recipe::{MAX_UNITS, Need};
+use batch_recipe::{MAX_NEED_UNITS, Need};
 use batch_text::{Name, TextFault, read_number};
 use std::alloc::Global;
 use toml::{Table, Value};
@@ -135,7 +135,7 @@ fn read_units(text: &[u8], spot: Spot) -> Result<u32, TableFault>
     ensures refused { IfErr result (λ fault. (units : ℕ) → ¬ (IsUnits text.now units)) }
     ensures told { IfErr result (TellsAt spot (IsUnitsFault text.now)) }
 {
-    match read_number(text, u64::from(MAX_UNITS)) {
+    match read_number(text, u64::from(MAX_NEED_UNITS)) {
         Ok(0) => Err(TableFault::Entry(spot, EntryFault::OutOfLimit)),
         Ok(units) => Ok(units as u32),
         Err(TextFault::OutOfRange) => Err(TableFault::Entry(spot, EntryFault::OutOfLimit)),

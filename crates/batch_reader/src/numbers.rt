@@ -6,7 +6,7 @@ ghost use Rattle.batch_reader.specs.ChartView.{Gives, want_view};
 
 use crate::chart_fault::Stop;
 use crate::want::Want;
-use batch_recipe::{Cond, Op, Term};
+use batch_recipe::{Condition, Op, Term};
 use batch_text::read_number;
 use std::mem::replace;
 
@@ -27,7 +27,7 @@ pub fn take_number(want: &mut Want, number: u64) -> Result<(), Stop>
         Want::Turns => Want::AfterTurns(number),
         Want::Operand(test, name, op) => {
             let term = Term::Number(number);
-            Want::AfterCond(test, Cond { name, op, term })
+            Want::AfterCond(test, Condition { name, op, term })
         }
         _ => return Err(Stop::NotAChart),
     };

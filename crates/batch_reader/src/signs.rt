@@ -1,6 +1,6 @@
 //! The change of the wanted token by a sign.
 ghost use Rattle.std.specs.Prelude.{◌≡◌, ◌≢◌, ◌∷◌, ◌==◌, List, true, false, Some, MatchResult};
-ghost use Rattle.batch_recipe.specs.declared.condition.Cond.{Cond as Condition};
+ghost use Rattle.batch_recipe.specs.declared.condition.Condition.{Condition};
 ghost use Rattle.batch_recipe.specs.Diagram.{Diagram, diagram_of};
 ghost use Rattle.batch_reader.specs.ChartMachine.{Frame as Around, in_case, a_chart, after_chart, after_condition, take_comma, take_sign};
 ghost use Rattle.batch_reader.specs.ChartView.{Gives, after_view, frame_view, frames_view, test_view, want_view};
@@ -10,7 +10,7 @@ use crate::forms::take_close;
 use crate::frame::Frame;
 use crate::stack::{pop, push};
 use crate::want::{Test, Want};
-use batch_recipe::{Chart, Cond};
+use batch_recipe::{Chart, Condition};
 use std::alloc::Global;
 use std::mem::replace;
 
@@ -78,7 +78,7 @@ fn take_comma(want: &mut Want, chart: Chart, stack: &mut Vec<Frame>) -> Result<(
 /// Reads the colon or the comma after a condition.
 fn end_condition(
     test: Test,
-    condition: Cond,
+    condition: Condition,
     byte: u8,
     stack: &mut Vec<Frame>,
 ) -> Result<Want, Stop>

@@ -3,13 +3,13 @@ ghost use Rattle.std.specs.Prelude.{◌≡◌};
 ghost use Rattle.batch_reader.specs.ChartMachine.{takes_number, takes_operator, takes_word};
 ghost use Rattle.batch_reader.specs.ChartView.{want_view};
 
-use batch_recipe::{Chart, Cond, Op};
+use batch_recipe::{Chart, Condition, Op};
 use batch_text::Name;
 
 /// The form whose condition is being read.
 #[derive(Drop)]
 pub enum Test {
-    Sel(Vec<(Cond, Chart)>),
+    Sel(Vec<(Condition, Chart)>),
     Loop(u64),
 }
 
@@ -26,8 +26,8 @@ pub enum Want {
     Name(Test),
     Operator(Test, Name),
     Operand(Test, Name, Op),
-    AfterCond(Test, Cond),
-    AfterElse(Vec<(Cond, Chart)>),
+    AfterCond(Test, Condition),
+    AfterElse(Vec<(Condition, Chart)>),
     AfterChart(Chart),
 }
 

@@ -8,7 +8,7 @@ ghost use Rattle.batch_reader.specs.ChartView.{Gives, test_view, want_view};
 use crate::chart_fault::Stop;
 use crate::want::{Test, Want};
 use crate::word::{Word, name_of, word_of};
-use batch_recipe::{Chart, Cond, MAX_DEPTH, Op, Term};
+use batch_recipe::{Chart, Condition, MAX_DEPTH, Op, Term};
 use batch_text::Name;
 use std::alloc::Global;
 use std::mem::replace;
@@ -100,7 +100,7 @@ fn take_operand_word(
     match kind {
         Word::Name => {
             let term = Term::Named(name_of(alloc, word)?);
-            Ok(Want::AfterCond(test, Cond { name, op, term }))
+            Ok(Want::AfterCond(test, Condition { name, op, term }))
         }
         Word::Skip | Word::Seq | Word::Par | Word::Sel | Word::Loop | Word::Else => {
             Err(Stop::NotAChart)

@@ -1,7 +1,7 @@
 -- The entries added to an outline: a node with those below it, and branches one after another.
 use Rattle.std.proofs.Common.{◌≡◌, ℕ, suc, ◌+◌, ◌<◌, ◌≤◌, List, [], ◌∷◌, ◌++◌, map, get_or, drop, length, Option, Some, None, Result, Ok, Err, Bool, position, slice_get, sym, ap, ◌∙◌, refl, subst, arith, add-one, drop-cons, drop_of_length-le, length-append, append_assoc, append-nil}
 use Rattle.std.{specs.List.find, proofs.lemmas.Grind.common_steps, proofs.lemmas.List.Folds.find_at, proofs.lemmas.Option.slice_get_past}
-use Rattle.batch_recipe.specs.{Conditions.Name, Diagram.Diagram, Diagram.diagram_of, Diagram.cases_of, Procedure.table_at, Procedure.level_below, Growing.Head, Growing.Labels, Growing.LabelConditions, Growing.entry, Growing.topped, Growing.bare_entries, Growing.grown, Growing.grown_cases, Growing.grown_act, Growing.grown_named, Growing.levels_from, Growing.number_in, Growing.unit_number, Growing.conditions_along_cases, Growing.conditions_named, Growing.told_from, Growing.named_from, Growing.branch_entries, Growing.branch_conditions, Growing.chart_entries, Growing.chart_conditions, Growing.act_entries, Growing.act_conditions, Growing.HasBegun, Growing.HasEnded, Growing.HasGrown, Growing.HasAdded, declared.act.Act.Act, declared.acts.Acts.Acts, declared.acts.LabelTable.LabelTable, declared.chart.Chart.Chart, declared.condition.Cond.Cond, declared.entry.Entry.Entry, declared.outline_fault.OutlineFault.OutlineFault, declared.outline_fault.OutlineFault.TheVariants.TooMany, declared.outline_fault.OutlineFault.TheVariants.Memory, declared.recipe.TheConstants.MAX_NODES}
+use Rattle.batch_recipe.specs.{Conditions.Name, Diagram.Diagram, Diagram.diagram_of, Diagram.cases_of, Procedure.table_at, Procedure.level_below, Growing.Head, Growing.Labels, Growing.LabelConditions, Growing.entry, Growing.topped, Growing.bare_entries, Growing.grown, Growing.grown_cases, Growing.grown_act, Growing.grown_named, Growing.levels_from, Growing.number_in, Growing.unit_number, Growing.conditions_along_cases, Growing.conditions_named, Growing.told_from, Growing.named_from, Growing.branch_entries, Growing.branch_conditions, Growing.chart_entries, Growing.chart_conditions, Growing.act_entries, Growing.act_conditions, Growing.HasBegun, Growing.HasEnded, Growing.HasGrown, Growing.HasAdded, declared.act.Act.Act, declared.acts.Acts.Acts, declared.acts.LabelTable.LabelTable, declared.chart.Chart.Chart, declared.condition.Condition.Condition, declared.entry.Entry.Entry, declared.outline_fault.OutlineFault.OutlineFault, declared.outline_fault.OutlineFault.TheVariants.TooMany, declared.outline_fault.OutlineFault.TheVariants.Memory, declared.recipe.TheConstants.MAX_NODES}
 use Rattle.batch_recipe.specs.Diagram as chart
 use Rattle.batch_recipe.specs.declared.entry.Kind.TheVariants as kind
 
@@ -87,32 +87,32 @@ module _ (acts : Acts) (level : Option LabelTable) (o u : ℕ) where
   abbrev each : ℕ → ℕ → ℕ → List Chart → List Entry
   each n j i parts = branch_entries acts level o n j u i (map diagram_of parts)
 
-  abbrev each_told : List Chart → List Cond
+  abbrev each_told : List Chart → List Condition
   each_told parts = branch_conditions acts level (map diagram_of parts)
 
-  abbrev case_of : (Cond × Chart) → Cond × Diagram
+  abbrev case_of : (Condition × Chart) → Condition × Diagram
   case_of choice = (choice.0, diagram_of choice.1)
 
-  abbrev cases : ℕ → ℕ → ℕ → List (Cond × Chart) → Chart → List Entry
+  abbrev cases : ℕ → ℕ → ℕ → List (Condition × Chart) → Chart → List Entry
   cases n j i choices last = grown_cases (told_from acts level) (named_from acts level o) n j u i (cases_of (map case_of choices) (diagram_of last))
 
-  abbrev cases_told : List (Cond × Chart) → Chart → List Cond
+  abbrev cases_told : List (Condition × Chart) → Chart → List Condition
   cases_told choices last = conditions_along_cases (told_from acts level) (cases_of (map case_of choices) (diagram_of last))
 
   abbrev one : ℕ → ℕ → ℕ → Chart → List Entry
   one n j i c = chart_entries acts level o n j u i (diagram_of c)
 
-  abbrev one_told : Chart → List Cond
+  abbrev one_told : Chart → List Condition
   one_told c = chart_conditions acts level (diagram_of c)
 
   some_one : (n j i : ℕ) (c : Chart) → 0 < length (one n j i c)
   some_one n j i c = some_grown (told_from acts level) (named_from acts level o) (some_named acts (levels_from level) o) n j u i (diagram_of c)
 
   -- those that came and those that are left are all
-  pub record KeepsGrowing (parts : List Chart) (before : List Entry) (cbefore : List Cond) (index child : ℕ) (now : List Entry) (cnow : List Cond) : Type 0 where
+  pub record KeepsGrowing (parts : List Chart) (before : List Entry) (cbefore : List Condition) (index child : ℕ) (now : List Entry) (cnow : List Condition) : Type 0 where
     pub counted : child ≡ index
     pub done : List Entry
-    pub told : List Cond
+    pub told : List Condition
     pub some : index ≤ length done
     pub now_is : now ≡ before ++ done
     pub told_is : cnow ≡ cbefore ++ told
@@ -120,10 +120,10 @@ module _ (acts : Acts) (level : Option LabelTable) (o u : ℕ) where
     pub all : each (length before) (length cbefore) 0 parts ≡ done ++ each (length now) (length cnow) index (drop index parts)
     pub all_told : each_told parts ≡ told ++ each_told (drop index parts)
 
-  pub record KeepsChoosing (choices : List (Cond × Chart)) (last : Chart) (before : List Entry) (cbefore : List Cond) (index child : ℕ) (now : List Entry) (cnow : List Cond) : Type 0 where
+  pub record KeepsChoosing (choices : List (Condition × Chart)) (last : Chart) (before : List Entry) (cbefore : List Condition) (index child : ℕ) (now : List Entry) (cnow : List Condition) : Type 0 where
     pub counted : child ≡ index
     pub done : List Entry
-    pub told : List Cond
+    pub told : List Condition
     pub some : index ≤ length done
     pub now_is : now ≡ before ++ done
     pub told_is : cnow ≡ cbefore ++ told
@@ -131,7 +131,7 @@ module _ (acts : Acts) (level : Option LabelTable) (o u : ℕ) where
     pub all : cases (length before) (length cbefore) 0 choices last ≡ done ++ cases (length now) (length cnow) index (drop index choices) last
     pub all_told : cases_told choices last ≡ told ++ cases_told (drop index choices) last
 
-  module _ (parts : List Chart) (before now : List Entry) (cbefore cnow : List Cond) (index child : ℕ) (h : KeepsGrowing parts before cbefore index child now cnow) where
+  module _ (parts : List Chart) (before now : List Entry) (cbefore cnow : List Condition) (index child : ℕ) (h : KeepsGrowing parts before cbefore index child now cnow) where
     module _ (part : Chart) (in' : index < length parts) (is : part ≡ get_or parts index part) (after : List Entry) where
       abbrev own : List Entry
       own = one (length now) (length cnow) index part
@@ -142,7 +142,7 @@ module _ (acts : Acts) (level : Option LabelTable) (o u : ℕ) where
       split_told : each_told parts ≡ h.told ++ (one_told part ++ each_told (drop (index + 1) parts))
       split_told = h.all_told ∙ ap (λ ps. h.told ++ each_told ps) (cut parts index part in' is)
 
-      pub KeepsGrowing-more : (cafter : List Cond) → (after ≡ now ++ one (length now) (length cnow) child part) × (length after ≤ MAX_NODES) → cafter ≡ cnow ++ one_told part → KeepsGrowing parts before cbefore (index + 1) (child + 1) after cafter
+      pub KeepsGrowing-more : (cafter : List Condition) → (after ≡ now ++ one (length now) (length cnow) child part) × (length after ≤ MAX_NODES) → cafter ≡ cnow ++ one_told part → KeepsGrowing parts before cbefore (index + 1) (child + 1) after cafter
       KeepsGrowing-more cafter g t =
           let es = own in
           let is' : after ≡ now ++ es = g.0 ∙ ap (λ i. now ++ one (length now) (length cnow) i part) h.counted in
@@ -180,8 +180,8 @@ module _ (acts : Acts) (level : Option LabelTable) (o u : ℕ) where
     pub KeepsGrowing-told : length parts ≤ index → cnow ≡ cbefore ++ each_told parts
     KeepsGrowing-told past = grind (arith, drop_of_length-le parts past, append-nil h.told)
 
-  module _ (choices : List (Cond × Chart)) (last : Chart) (before now : List Entry) (cbefore cnow : List Cond) (index child : ℕ) (h : KeepsChoosing choices last before cbefore index child now cnow) (after : List Entry) where
-    module _ (choice : Cond × Chart) (in' : index < length choices) (is : choice ≡ get_or choices index choice) where
+  module _ (choices : List (Condition × Chart)) (last : Chart) (before now : List Entry) (cbefore cnow : List Condition) (index child : ℕ) (h : KeepsChoosing choices last before cbefore index child now cnow) (after : List Entry) where
+    module _ (choice : Condition × Chart) (in' : index < length choices) (is : choice ≡ get_or choices index choice) where
       abbrev branch : List Entry
       branch = one (length now) (length cnow) index choice.1
 
@@ -191,7 +191,7 @@ module _ (acts : Acts) (level : Option LabelTable) (o u : ℕ) where
       splitc_told : cases_told choices last ≡ h.told ++ (one_told choice.1 ++ cases_told (drop (index + 1) choices) last)
       splitc_told = h.all_told ∙ ap (λ ps. h.told ++ cases_told ps last) (cut choices index choice in' is)
 
-      pub KeepsChoosing-more : (cafter : List Cond) → (after ≡ now ++ one (length now) (length cnow) child choice.1) × (length after ≤ MAX_NODES) → cafter ≡ cnow ++ one_told choice.1
+      pub KeepsChoosing-more : (cafter : List Condition) → (after ≡ now ++ one (length now) (length cnow) child choice.1) × (length after ≤ MAX_NODES) → cafter ≡ cnow ++ one_told choice.1
           → KeepsChoosing choices last before cbefore (index + 1) (child + 1) after cafter
       KeepsChoosing-more cafter g t =
           let es = branch in
@@ -237,13 +237,13 @@ module _ (acts : Acts) (level : Option LabelTable) (o u : ℕ) where
         joined (Err TooMany) es all is g = omega (arith, g, ap length is, length-append h.done es, ap length h.now_is, length-append before h.done)
         joined (Err Memory) es all is g = tt
 
-    pub KeepsChoosing-told : length choices ≤ index → (cafter : List Cond) (r : Result (Unit {0}) OutlineFault) → HasAdded cnow (one_told last) cafter r → HasAdded cbefore (cases_told choices last) cafter r
+    pub KeepsChoosing-told : length choices ≤ index → (cafter : List Condition) (r : Result (Unit {0}) OutlineFault) → HasAdded cnow (one_told last) cafter r → HasAdded cbefore (cases_told choices last) cafter r
     KeepsChoosing-told past cafter (Ok _) g =
         let is : cases_told choices last ≡ h.told ++ one_told last = h.all_told ∙ ap (λ cs. h.told ++ cases_told cs last) (drop_of_length-le choices past) in
         g ∙ (ap (λ xs. xs ++ one_told last) h.told_is ∙ (append_assoc cbefore h.told (one_told last) ∙ ap (λ xs. cbefore ++ xs) (sym is)))
     KeepsChoosing-told past cafter (Err fault) g = tt
 
-pub nothing_added : (before cs : List Cond) (r : Result (Unit {0}) OutlineFault) → cs ≡ [] → HasAdded before cs before r
+pub nothing_added : (before cs : List Condition) (r : Result (Unit {0}) OutlineFault) → cs ≡ [] → HasAdded before cs before r
 nothing_added before cs (Ok _) is = sym (append-nil before) ∙ ap (λ xs. before ++ xs) (sym is)
 nothing_added before cs (Err fault) is = tt
 

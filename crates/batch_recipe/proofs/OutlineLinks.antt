@@ -1,7 +1,7 @@
 -- How the nodes of an outline hang together.
 use Rattle.std.proofs.Common.{◌≡◌, ℕ, zero, suc, ◌+◌, ◌<◌, ◌≤◌, List, [], ◌∷◌, ◌++◌, length, Some, None, slice_get, sym, ap, ◌∙◌, refl, subst, arith, append-nil, inl, inr}
 use Rattle.std.{specs.Option.option_map, proofs.lemmas.List.length-map, proofs.lemmas.Option.slice_get-map}
-use Rattle.batch_recipe.{specs.ActsAtNodes.procedure_acts, specs.Conditions.Name, specs.Expanding.Binding, specs.Needs.resources_needed, specs.Nodes.Node, specs.Nodes.node, specs.Nodes.nodes, specs.Nodes.nodes_within, specs.Nodes.nodes_of_each, specs.Nodes.nodes_of_choices, specs.Nodes.child, specs.Nodes.needs_of, specs.Nodes.node_count, specs.Nodes.count_within, specs.Nodes.count_of_each, specs.Nodes.count_of_choices, specs.Outlines.Shape, specs.Outlines.act_of_kind, specs.Outlines.shape_of, specs.Outlines.shape, specs.Outlines.shapes, specs.Outlines.shapes_within, specs.Outlines.shapes_of_each, specs.Outlines.shapes_of_choices, specs.Outlines.IsOutline, specs.Links.form_at, specs.Links.IsShaped, specs.Links.Hangs, specs.Links.IsEntryOf, specs.Links.IsBranch, specs.Links.IsChoice, specs.Links.IsOnlyChild, specs.Links.IsChildTree, specs.Procedure.bound_tree, specs.Procedure.bound_nodes, specs.Tree.Place, specs.Tree.Tree, specs.Tree.act, specs.Tree.skip, specs.Tree.seq, specs.Tree.par, specs.Tree.sel, specs.Tree.loop, specs.Tree.Task, specs.Tree.runs, specs.Tree.follows, specs.Tree.Trees, specs.Tree.no_trees, specs.Tree.tree, specs.Tree.Choices, specs.Tree.otherwise, specs.Tree.choice, specs.declared.acts.Acts.Acts, specs.declared.condition.Cond.Cond, specs.declared.entry.Entry.Entry, proofs.NodeOrder.counted_nodes, proofs.AppendedLists.slice_get-left, proofs.AppendedLists.slice_get-right, proofs.EntryShapes.shapes_counted}
+use Rattle.batch_recipe.{specs.ActsAtNodes.procedure_acts, specs.Conditions.Name, specs.Expanding.Binding, specs.Needs.resources_needed, specs.Nodes.Node, specs.Nodes.node, specs.Nodes.nodes, specs.Nodes.nodes_within, specs.Nodes.nodes_of_each, specs.Nodes.nodes_of_choices, specs.Nodes.child, specs.Nodes.needs_of, specs.Nodes.node_count, specs.Nodes.count_within, specs.Nodes.count_of_each, specs.Nodes.count_of_choices, specs.Outlines.Shape, specs.Outlines.act_of_kind, specs.Outlines.shape_of, specs.Outlines.shape, specs.Outlines.shapes, specs.Outlines.shapes_within, specs.Outlines.shapes_of_each, specs.Outlines.shapes_of_choices, specs.Outlines.IsOutline, specs.Links.form_at, specs.Links.IsShaped, specs.Links.Hangs, specs.Links.IsEntryOf, specs.Links.IsBranch, specs.Links.IsChoice, specs.Links.IsOnlyChild, specs.Links.IsChildTree, specs.Procedure.bound_tree, specs.Procedure.bound_nodes, specs.Tree.Place, specs.Tree.Tree, specs.Tree.act, specs.Tree.skip, specs.Tree.seq, specs.Tree.par, specs.Tree.sel, specs.Tree.loop, specs.Tree.Task, specs.Tree.runs, specs.Tree.follows, specs.Tree.Trees, specs.Tree.no_trees, specs.Tree.tree, specs.Tree.Choices, specs.Tree.otherwise, specs.Tree.choice, specs.declared.acts.Acts.Acts, specs.declared.condition.Condition.Condition, specs.declared.entry.Entry.Entry, proofs.NodeOrder.counted_nodes, proofs.AppendedLists.slice_get-left, proofs.AppendedLists.slice_get-right, proofs.EntryShapes.shapes_counted}
 
 module _ (ns : List Node) where
   -- these are the nodes from number n on
@@ -116,10 +116,10 @@ module _ (ns : List Node) where
   only_choice : (of : Tree) (i : ℕ) (t : Tree) → AreChoices of i (otherwise t) → IsChildTree of i t
   only_choice of i t h = let same : i + 0 ≡ i = omega arith in subst (λ k. IsChildTree of k t) same (h 0 t refl)
 
-  first_choice : (of : Tree) (i : ℕ) (c : Cond) (t : Tree) (cs : Choices) → AreChoices of i (choice c t cs) → IsChildTree of i t
+  first_choice : (of : Tree) (i : ℕ) (c : Condition) (t : Tree) (cs : Choices) → AreChoices of i (choice c t cs) → IsChildTree of i t
   first_choice of i c t cs h = let same : i + 0 ≡ i = omega arith in subst (λ k. IsChildTree of k t) same (h 0 t refl)
 
-  more_choices : (of : Tree) (i : ℕ) (c : Cond) (t : Tree) (cs : Choices) → AreChoices of i (choice c t cs) → AreChoices of (i + 1) cs
+  more_choices : (of : Tree) (i : ℕ) (c : Condition) (t : Tree) (cs : Choices) → AreChoices of i (choice c t cs) → AreChoices of (i + 1) cs
   more_choices of i c t cs h = λ j v is. let same : i + suc j ≡ i + 1 + j = omega arith in subst (λ k. IsChildTree of k v) same (h (suc j) v is)
 
   own_branches : (of : Tree) (ts : Trees) → ((j : ℕ) (t : Tree) → IsBranch ts j t → IsChildTree of j t) → AreBranches of 0 ts

@@ -11,7 +11,7 @@ use Rattle.batch_recipe.specs.declared.acts.Acts.{Acts}
 use Rattle.batch_recipe.specs.declared.acts.LabelTable.{LabelTable}
 use Rattle.batch_recipe.specs.declared.acts.LabelTable.TheVariants.{UnitProcedures, Operations, Phases}
 use Rattle.batch_recipe.specs.declared.chart.Chart.{Chart}
-use Rattle.batch_recipe.specs.declared.condition.Cond.{Cond}
+use Rattle.batch_recipe.specs.declared.condition.Condition.{Condition}
 use Rattle.batch_recipe.specs.declared.entry.Entry.{Entry}
 use Rattle.batch_recipe.specs.declared.entry.Kind.{Kind}
 use Rattle.batch_recipe.specs.declared.entry.Kind.TheVariants as kind
@@ -54,16 +54,16 @@ abbrev pub Labels : Type 0
 Labels = Name → ℕ → ℕ → ℕ → ℕ → List Entry
 
 abbrev pub LabelConditions : Type 0
-LabelConditions = Name → List Cond
+LabelConditions = Name → List Condition
 
 -- Conditions in the order of their nodes
 
-abbrev pub conditions_of_cases : Cases → List Cond
+abbrev pub conditions_of_cases : Cases → List Condition
 conditions_of_cases (otherwise d) = []
 conditions_of_cases (when c d cs) = c ∷ conditions_of_cases cs
 
 abbrev mutual
-  pub conditions_along : LabelConditions → Diagram → List Cond
+  pub conditions_along : LabelConditions → Diagram → List Condition
   conditions_along told (label name) = told name
   conditions_along told skip = []
   conditions_along told (seq ds) = conditions_along_each told ds
@@ -71,15 +71,15 @@ abbrev mutual
   conditions_along told (sel cs) = conditions_of_cases cs ++ conditions_along_cases told cs
   conditions_along told (loop turns until d) = until ∷ conditions_along told d
 
-  pub conditions_along_each : LabelConditions → Diagrams → List Cond
+  pub conditions_along_each : LabelConditions → Diagrams → List Condition
   conditions_along_each told none = []
   conditions_along_each told (more d ds) = conditions_along told d ++ conditions_along_each told ds
 
-  pub conditions_along_cases : LabelConditions → Cases → List Cond
+  pub conditions_along_cases : LabelConditions → Cases → List Condition
   conditions_along_cases told (otherwise d) = conditions_along told d
   conditions_along_cases told (when c d cs) = conditions_along told d ++ conditions_along_cases told cs
 
-abbrev pub conditions_below : LabelConditions → Work → List Cond
+abbrev pub conditions_below : LabelConditions → Work → List Condition
 conditions_below told (Follows c) = conditions_along told (diagram_of c)
 conditions_below told (Runs phase values reports) = []
 
@@ -154,19 +154,19 @@ named_from acts level o = grown_named acts (levels_from level) o
 abbrev pub act_entries : Acts → Option LabelTable → Kind → ℕ → ℕ → ℕ → ℕ → ℕ → Act → List Entry
 act_entries acts level k o n j u i a = grown_act (told_from acts level) (named_from acts level o) k o n j u i a
 
-abbrev pub act_conditions : Acts → Option LabelTable → Act → List Cond
+abbrev pub act_conditions : Acts → Option LabelTable → Act → List Condition
 act_conditions acts level a = conditions_below (told_from acts level) a.work
 
 abbrev pub chart_entries : Acts → Option LabelTable → ℕ → ℕ → ℕ → ℕ → ℕ → Diagram → List Entry
 chart_entries acts level o n j u i d = grown (told_from acts level) (named_from acts level o) n j u i d
 
-abbrev pub chart_conditions : Acts → Option LabelTable → Diagram → List Cond
+abbrev pub chart_conditions : Acts → Option LabelTable → Diagram → List Condition
 chart_conditions acts level d = conditions_along (told_from acts level) d
 
 abbrev pub branch_entries : Acts → Option LabelTable → ℕ → ℕ → ℕ → ℕ → ℕ → List Diagram → List Entry
 branch_entries acts level o n j u i ds = grown_each (told_from acts level) (named_from acts level o) n j u i (diagrams_of ds)
 
-abbrev pub branch_conditions : Acts → Option LabelTable → List Diagram → List Cond
+abbrev pub branch_conditions : Acts → Option LabelTable → List Diagram → List Condition
 branch_conditions acts level ds = conditions_along_each (told_from acts level) (diagrams_of ds)
 
 -- a node and its branches
@@ -174,13 +174,13 @@ abbrev pub parts_entries : Acts → Option LabelTable → Kind → ℕ → ℕ �
 parts_entries acts level k o n j u i ds = topped (plain_head k 0) n u i (branch_entries acts level o (n + 1) j n 0 ds)
 
 -- the cases of a selection
-abbrev pub choice_cases : List (Cond × Chart) → Chart → Cases
+abbrev pub choice_cases : List (Condition × Chart) → Chart → Cases
 choice_cases choices last = cases_of (map (λ choice. (choice.0, diagram_of choice.1)) choices) (diagram_of last)
 
-abbrev pub choice_entries : Acts → Option LabelTable → ℕ → ℕ → ℕ → ℕ → ℕ → List (Cond × Chart) → Chart → List Entry
+abbrev pub choice_entries : Acts → Option LabelTable → ℕ → ℕ → ℕ → ℕ → ℕ → List (Condition × Chart) → Chart → List Entry
 choice_entries acts level o n j u i choices last = grown_cases (told_from acts level) (named_from acts level o) n j u i (choice_cases choices last)
 
-abbrev pub choice_conditions : Acts → Option LabelTable → List (Cond × Chart) → Chart → List Cond
+abbrev pub choice_conditions : Acts → Option LabelTable → List (Condition × Chart) → Chart → List Condition
 choice_conditions acts level choices last = conditions_along_cases (told_from acts level) (choice_cases choices last)
 
 -- the entries of a recipe's outline
@@ -188,7 +188,7 @@ abbrev pub entries_of : Acts → List Entry
 entries_of acts = act_entries acts (Some UnitProcedures) kind.Procedure 0 0 0 0 0 acts.procedure
 
 -- and its conditions
-abbrev pub conditions_of : Acts → List Cond
+abbrev pub conditions_of : Acts → List Condition
 conditions_of acts = act_conditions acts (Some UnitProcedures) acts.procedure
 
 -- all these entries were added to those before, or there are too many
@@ -197,7 +197,7 @@ HasGrown before es after (Ok _) = (after ≡ before ++ es) × (length after ≤ 
 HasGrown before es after (Err TooMany) = MAX_NODES < length before + length es
 HasGrown before es after (Err Memory) = ⊤
 
-abbrev pub HasAdded : List Cond → List Cond → List Cond → Result (Unit {0}) OutlineFault → Type 0
+abbrev pub HasAdded : List Condition → List Condition → List Condition → Result (Unit {0}) OutlineFault → Type 0
 HasAdded before cs after (Ok _) = after ≡ before ++ cs
 HasAdded before cs after (Err fault) = ⊤
 

@@ -2,8 +2,8 @@
 ghost use Rattle.std.specs.Prelude.{◌≡◌, ◌++◌, [], ◌∷◌, map, IfOk};
 
 use crate::chart::Chart;
-use crate::condition::{Cond, Term};
-use crate::node_condition::NodeCond;
+use crate::condition::{Condition, Term};
+use crate::node_condition::NodeCondition;
 use batch_text::Name;
 use indexmap::IndexSet;
 use std::alloc::{AllocError, Global};
@@ -26,12 +26,12 @@ fn copy_term(alloc: Global, term: &Term) -> Result<Term, AllocError>
     }
 }
 
-fn copy_condition(alloc: Global, condition: &Cond) -> Result<Cond, AllocError>
+fn copy_condition(alloc: Global, condition: &Condition) -> Result<Condition, AllocError>
     ensures { IfOk result (λ copy. copy ≡ condition.now) }
 {
     let name = copy_name(alloc, &condition.name)?;
     let term = copy_term(alloc, &condition.term)?;
-    Ok(Cond {
+    Ok(Condition {
         name,
         op: condition.op,
         term,
@@ -41,23 +41,23 @@ fn copy_condition(alloc: Global, condition: &Cond) -> Result<Cond, AllocError>
 /// Adds a copy of the condition on these values.
 pub fn push_condition(
     alloc: Global,
-    conditions: &mut Vec<NodeCond>,
+    conditions: &mut Vec<NodeCondition>,
     values: &IndexSet<Name>,
-    condition: &Cond,
+    condition: &Condition,
 ) -> Result<(), AllocError>
     ensures { IfOk result (λ _. conditions.new.items ≡ conditions.old.items ++ condition.now ∷ []) }
 {
     let condition = copy_condition(alloc, condition)?;
-    conditions.push(NodeCond::new(condition, values))?;
+    conditions.push(NodeCondition::new(condition, values))?;
     Ok(())
 }
 
 /// Adds copies of the conditions of a selection's branches on these values.
 pub fn push_conditions(
     alloc: Global,
-    conditions: &mut Vec<NodeCond>,
+    conditions: &mut Vec<NodeCondition>,
     values: &IndexSet<Name>,
-    choices: &[(Cond, Chart)],
+    choices: &[(Condition, Chart)],
 ) -> Result<(), AllocError>
     ensures { IfOk result (λ _. conditions.new.items ≡ conditions.old.items ++ map (λ choice. choice.0) choices.now) }
 {

@@ -7,11 +7,11 @@ ghost use Rattle.batch_recipe.specs.declared.recipe.TheConstants.{MAX_NODES};
 use crate::act::{Act, Work};
 use crate::acts::LabelTable;
 use crate::chart::Chart;
-use crate::condition::Cond;
+use crate::condition::Condition;
 use crate::copying::{push_condition, push_conditions};
 use crate::entry::{Entry, Kind};
 use crate::labels::Labels;
-use crate::node_condition::NodeCond;
+use crate::node_condition::NodeCondition;
 use crate::outline_fault::OutlineFault;
 use crate::recipe::MAX_NODES;
 use batch_text::Name;
@@ -92,7 +92,7 @@ fn finish(nodes: &mut Vec<Entry>, node: u16)
 pub fn grow_act(
     alloc: Global,
     nodes: &mut Vec<Entry>,
-    conditions: &mut Vec<NodeCond>,
+    conditions: &mut Vec<NodeCondition>,
     labels: &Labels<'_>,
     act: &Act,
     kind: Kind,
@@ -139,7 +139,7 @@ fn grow_bare(nodes: &mut Vec<Entry>, parent: u16, child: u16) -> Result<(), Outl
 fn grow(
     alloc: Global,
     nodes: &mut Vec<Entry>,
-    conditions: &mut Vec<NodeCond>,
+    conditions: &mut Vec<NodeCondition>,
     labels: &Labels<'_>,
     chart: &Chart,
     seat: Seat,
@@ -165,7 +165,7 @@ fn grow(
 fn grow_label(
     alloc: Global,
     nodes: &mut Vec<Entry>,
-    conditions: &mut Vec<NodeCond>,
+    conditions: &mut Vec<NodeCondition>,
     labels: &Labels<'_>,
     name: &Name,
     seat: Seat,
@@ -201,7 +201,7 @@ fn grow_label(
 fn grow_parts(
     alloc: Global,
     nodes: &mut Vec<Entry>,
-    conditions: &mut Vec<NodeCond>,
+    conditions: &mut Vec<NodeCondition>,
     labels: &Labels<'_>,
     kind: Kind,
     parts: &[Chart],
@@ -227,7 +227,7 @@ fn grow_parts(
 fn grow_each(
     alloc: Global,
     nodes: &mut Vec<Entry>,
-    conditions: &mut Vec<NodeCond>,
+    conditions: &mut Vec<NodeCondition>,
     labels: &Labels<'_>,
     parts: &[Chart],
     seat: Seat,
@@ -256,9 +256,9 @@ fn grow_each(
 fn grow_selection(
     alloc: Global,
     nodes: &mut Vec<Entry>,
-    conditions: &mut Vec<NodeCond>,
+    conditions: &mut Vec<NodeCondition>,
     labels: &Labels<'_>,
-    choices: &[(Cond, Chart)],
+    choices: &[(Condition, Chart)],
     last: &Chart,
     seat: Seat,
 ) -> Result<(), OutlineFault>
@@ -286,9 +286,9 @@ fn grow_selection(
 fn grow_choices(
     alloc: Global,
     nodes: &mut Vec<Entry>,
-    conditions: &mut Vec<NodeCond>,
+    conditions: &mut Vec<NodeCondition>,
     labels: &Labels<'_>,
-    choices: &[(Cond, Chart)],
+    choices: &[(Condition, Chart)],
     last: &Chart,
     seat: Seat,
 ) -> Result<(), OutlineFault>
@@ -323,10 +323,10 @@ fn grow_choices(
 fn grow_loop(
     alloc: Global,
     nodes: &mut Vec<Entry>,
-    conditions: &mut Vec<NodeCond>,
+    conditions: &mut Vec<NodeCondition>,
     labels: &Labels<'_>,
     turns: u64,
-    turn: &(Cond, Chart),
+    turn: &(Condition, Chart),
     seat: Seat,
 ) -> Result<(), OutlineFault>
     requires { length nodes.old.items ≤ MAX_NODES }

@@ -2,30 +2,30 @@
 ghost use Rattle.std.specs.Prelude.{◌≡◌};
 ghost use Rattle.batch_recipe.specs.Conditions.{holds};
 
-use crate::condition::{Cond, Term};
+use crate::condition::{Condition, Term};
 use crate::values::Values;
 use batch_text::Name;
 use indexmap::IndexSet;
 use std::marker::Model;
 
 /// The condition of a node, and the positions at which a batch of the recipe has the values that it names.
-pub struct NodeCond {
-    cond: Cond,
+pub struct NodeCondition {
+    cond: Condition,
     left: usize,
     right: usize,
 }
 
-impl Model for NodeCond {
-    ghost use Rattle.batch_recipe.specs.declared.condition.Cond.{Cond};
+impl Model for NodeCondition {
+    ghost use Rattle.batch_recipe.specs.declared.condition.Condition.{Condition};
 
-    ghost Value = { Cond };
+    ghost Value = { Condition };
 
     ghost view = { λ node. node.cond };
 }
 
-impl Drop for NodeCond {
+impl Drop for NodeCondition {
     fn drop(self) {
-        let NodeCond {
+        let NodeCondition {
             cond: _,
             left: _,
             right: _,
@@ -38,9 +38,9 @@ fn position_of(values: &IndexSet<Name>, name: &Name) -> usize {
     values.get_index_of(name).unwrap_or(0)
 }
 
-impl NodeCond {
+impl NodeCondition {
     /// The condition, with the positions of its names among those of the recipe's values.
-    pub(crate) fn new(cond: Cond, values: &IndexSet<Name>) -> NodeCond
+    pub(crate) fn new(cond: Condition, values: &IndexSet<Name>) -> NodeCondition
         ensures { result ≡ cond }
     {
         let left = position_of(values, &cond.name);
@@ -48,7 +48,7 @@ impl NodeCond {
             Term::Named(name) => position_of(values, name),
             Term::Number(_) => 0,
         };
-        NodeCond { cond, left, right }
+        NodeCondition { cond, left, right }
     }
 
     /// Whether the condition holds for the values, where a name without a value counts as 0.

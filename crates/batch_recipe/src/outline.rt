@@ -10,7 +10,7 @@ use crate::acts::{Acts, LabelTable};
 use crate::entry::{Entry, Kind};
 use crate::growing::{Seat, grow_act};
 use crate::labels::Labels;
-use crate::node_condition::NodeCond;
+use crate::node_condition::NodeCondition;
 use crate::outline_fault::OutlineFault;
 use crate::recipe_names::RecipeNames;
 use std::alloc::Global;
@@ -21,7 +21,7 @@ pub struct Outline {
     /// Node `k` is entry `k`.
     pub entries: Vec<Entry>,
     /// The conditions of the nodes that have some, in the order of these nodes.
-    pub conditions: Vec<NodeCond>,
+    pub conditions: Vec<NodeCondition>,
     ghost few: { length entries.items ≤ MAX_NODES },
 }
 

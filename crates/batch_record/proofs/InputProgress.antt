@@ -2,7 +2,7 @@
 use Rattle.std.proofs.Common.{◌≡◌, ℕ, ◌+◌, ◌-◌, ◌^◌, ◌<◌, false, eqb, List, [], ◌∷◌, ◌++◌, length, take, drop, min, Option, Some, None, Result, Ok, IfSome, refl, sym, ap, subst, ◌∙◌, append_assoc, append-nil, arith}
 use Rattle.std.{proofs.lemmas.List.drop_more, proofs.lemmas.List.take-append-drop, proofs.lemmas.List.take_rest, proofs.lemmas.List.Elements.All-append, proofs.KnownBytes.Consumes-trans, proofs.KnownBytes.Consumes-whole, specs.Io.KnownBytes.Consumes, specs.Io.KnownBytes.IsAtEnd, specs.Io.KnownBytes.ReadConsumes}
 use Rattle.batch_model.specs.Lists.{Each}
-use Rattle.batch_record.specs.{Blocks.Stage, Blocks.opening_stage, Blocks.stage_after, Blocks.stages, Kept.Keeps, StatusReading.HasNoFeed, StatusReading.IsRefusedAt, StatusReading.LeadsTo, StatusReading.lines_text, Standings.EndsLine, Standings.HasRead, Standings.IsAt, declared.course.Course.Course, declared.status_reading.Reading.Reading}
+use Rattle.batch_record.specs.{Blocks.Stage, Blocks.opening_stage, Blocks.stage_after, Blocks.stages, Kept.Keeps, StatusReading.HasNoFeed, StatusReading.IsRefusedAt, StatusReading.LeadsTo, StatusReading.lines_text, Standings.EndsLine, Standings.HasRead, Standings.IsAt, declared.course.RecordCourse.RecordCourse, declared.status_reading.Reading.Reading}
 
 -- A line more
 
@@ -88,7 +88,7 @@ beginning-read old new read rest h none line course count = record {
     is = ap (λ t. t ++ rest) h.is_text.is ∙ append_assoc (lines_text h.lines) old.line.items rest ∙ ap (λ t. lines_text h.lines ++ t) (sym line);
   };
   stages = h.stages;
-  is_at = subst (λ (c : Course). IsAt c h.stage) (sym course) h.is_at;
+  is_at = subst (λ (c : RecordCourse). IsAt c h.stage) (sym course) h.is_at;
   counted = count ∙ h.counted;
 }
 

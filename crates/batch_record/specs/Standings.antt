@@ -4,7 +4,7 @@ use Rattle.batch_record.specs.Blocks.{Stage, opening_stage, stage_after, stages}
 use Rattle.batch_record.specs.Kept.{Keeps}
 use Rattle.batch_record.specs.StatusReading.{HasNoFeed, IsRefusedAt, IsText}
 use Rattle.batch_record.specs.Telling.{Tale}
-use Rattle.batch_record.specs.declared.course.Course.{Course}
+use Rattle.batch_record.specs.declared.course.RecordCourse.{RecordCourse}
 use Rattle.batch_record.specs.declared.course.LineFault.{LineFault}
 use Rattle.batch_record.specs.declared.course.LineFault.TheVariants as faults
 use Rattle.batch_record.specs.declared.status_reading.StatusFault.{StatusFault}
@@ -18,12 +18,12 @@ KeepsBlock (Some status) (Some tale) = Keeps status tale
 KeepsBlock _ _ = ⊥
 
 -- the kept state is that of the stage
-pub record IsAt (course : Course) (stage : Stage) : Type 0 where
+pub record IsAt (course : RecordCourse) (stage : Stage) : Type 0 where
   pub tale : Keeps course.status stage.tale
   pub block : KeepsBlock course.block stage.block
 
 -- a line was taken, or is none of a record
-abbrev pub Takes : Course → List ℕ → Result (Unit {0}) LineFault → Course → Type 0
+abbrev pub Takes : RecordCourse → List ℕ → Result (Unit {0}) LineFault → RecordCourse → Type 0
 Takes old line result new =
     (stage : Stage) → IsAt old stage
     → MatchResult result (λ _. (next : Stage) × (stage_after stage line ≡ Some next) × IsAt new next) (λ fault. fault ≡ faults.NoRecord → stage_after stage line ≡ None)

@@ -4,7 +4,7 @@ ghost use Rattle.batch_record.specs.Reading.{out_told};
 ghost use Rattle.batch_record.specs.Kept.{BatchesAfter, ListsBatch, TellsState, UnlistsBatch, listed_in, listed_of};
 
 use crate::memory::{NoMemory, read_name};
-use crate::told::Told;
+use crate::told::RecordedOut;
 use batch_matrix::State;
 use batch_text::Name;
 use std::alloc::Global;
@@ -35,30 +35,30 @@ impl Batches {
     }
 
     /// Applies an out to the listed batches.
-    pub fn apply_out(&mut self, alloc: Global, told: Told<'_>) -> Result<(), NoMemory>
+    pub fn apply_out(&mut self, alloc: Global, told: RecordedOut<'_>) -> Result<(), NoMemory>
         ensures { OnOk result (BatchesAfter self.old (out_told told.entry) self.new) }
     {
         match told {
-            Told::Created(created) => self.add(
+            RecordedOut::Created(created) => self.add(
                 alloc,
                 created.batch,
                 created.recipe,
                 created.size,
                 State::Idle,
             ),
-            Told::Ordered { batch, state, .. } => {
+            RecordedOut::Ordered { batch, state, .. } => {
                 self.set_state(batch, state);
                 Ok(())
             }
-            Told::Stated { batch, state } => {
+            RecordedOut::Stated { batch, state } => {
                 self.set_state(batch, state);
                 Ok(())
             }
-            Told::Reported(report) => {
+            RecordedOut::Reported(report) => {
                 self.set_state(report.batch, report.state);
                 Ok(())
             }
-            Told::Removed { batch } => {
+            RecordedOut::Removed { batch } => {
                 self.remove(batch);
                 Ok(())
             }

@@ -9,7 +9,7 @@ use crate::block::{Mark, Row, read_mark};
 use crate::memory::NoMemory;
 use crate::record_line::{NoRecordLine, read_record_line};
 use crate::status::Status;
-use crate::told::Told;
+use crate::told::RecordedOut;
 use std::alloc::Global;
 
 /// Why a line wasn't applied.
@@ -33,17 +33,17 @@ impl From<NoMemory> for LineFault {
 
 /// The state by a record so far, and that by a recovery block that hasn't ended.
 #[derive(Drop)]
-pub struct Course {
+pub struct RecordCourse {
     pub(crate) status: Status,
     pub(crate) block: Option<Status>,
 }
 
-impl Course {
+impl RecordCourse {
     /// Before the first line.
-    pub fn new(alloc: Global) -> Course
+    pub fn new(alloc: Global) -> RecordCourse
         ensures { IsAt result opening_stage }
     {
-        Course {
+        RecordCourse {
             status: Status::new(alloc),
             block: None,
         }
@@ -60,7 +60,7 @@ impl Course {
         }
     }
 
-    fn apply_out(&mut self, alloc: Global, told: Told<'_>) -> Result<(), NoMemory>
+    fn apply_out(&mut self, alloc: Global, told: RecordedOut<'_>) -> Result<(), NoMemory>
         ensures { OnOk result ((stage : Stage) → IsAt self.old stage → IsAt self.new (stage_after_out stage (out_told told.entry))) }
     {
         self.block = None;

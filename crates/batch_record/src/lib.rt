@@ -36,14 +36,14 @@ pub use picture::Picture;
 pub use picture_reading::{RecordFault, draw_record};
 pub use read::{phase_with, read_out};
 pub use record_line::{NoRecordLine, read_record_line};
-pub use rows::{other_lines, record_lines};
+pub use rows::{other_lines, out_lines};
 pub use shape::{Anchor, Block, Grid, Label, Shape};
 pub use status::Status;
 pub use status_laws::{lines_tell_their_outs, tales_are_modelled};
 pub use status_reading::{StatusFault, read_status};
 pub use status_rows::{told_blocks, told_lines};
 pub use told::{
-    Begun, Claim, Created, Ended, Passed, PhaseStep, Refused, Reported, Sent, Started, Told,
+    Begun, Claim, Created, Ended, Passed, PhaseStep, RecordedOut, Refused, Reported, Sent, Started,
 };
 pub use word::{is_plain_place, plain_number, state_of};
 pub use words::Words;

@@ -10,7 +10,7 @@ ghost use Rattle.std.specs.List.Sorted.{IsSorted};
 ghost use Rattle.batch_record.specs.Telling.{led_by, moved_at, said_by};
 
 use crate::memory::{NoMemory, read_name, read_place};
-use crate::told::{PhaseStep, Reported, Sent, Told};
+use crate::told::{PhaseStep, RecordedOut, Reported, Sent};
 use batch_matrix::{Command, Report, State, after};
 use batch_text::{Name, Place};
 use std::alloc::Global;
@@ -70,13 +70,13 @@ impl LivePhases {
     }
 
     /// Applies an out to the live phases.
-    pub fn apply_out(&mut self, alloc: Global, told: Told<'_>) -> Result<(), NoMemory>
+    pub fn apply_out(&mut self, alloc: Global, told: RecordedOut<'_>) -> Result<(), NoMemory>
         ensures { OnOk result (LiveAfter self.old.phases.items (out_told told.entry) self.new.phases.items) }
     {
         match told {
-            Told::Started(started) => self.add(alloc, started.step, State::Running),
-            Told::Sent(told) => self.send(alloc, told),
-            Told::Reported(report) => self.report(alloc, report),
+            RecordedOut::Started(started) => self.add(alloc, started.step, State::Running),
+            RecordedOut::Sent(told) => self.send(alloc, told),
+            RecordedOut::Reported(report) => self.report(alloc, report),
             _ => Ok(()),
         }
     }

@@ -44,7 +44,7 @@ pub fn draw_record(alloc: Global, text: &[u8]) -> Result<Picture, RecordFault>
     ensures refused { IfErr result (λ fault. (number : ℕ) → fault ≡ faults.NoRecord number → IsRefusedAt text.now number) }
 {
     let mut timeline = Timeline::new(alloc, first_time(text));
-    take_lines(alloc, &mut timeline, text)?;
+    apply_lines(alloc, &mut timeline, text)?;
     Ok(draw(alloc, &timeline)?)
 }
 
@@ -69,8 +69,8 @@ fn time_of(line: &[u8]) -> Option<u64> {
     }
 }
 
-/// Reads each whole line.
-fn take_lines(alloc: Global, timeline: &mut Timeline, text: &[u8]) -> Result<(), RecordFault>
+/// Applies each whole line to the timeline.
+fn apply_lines(alloc: Global, timeline: &mut Timeline, text: &[u8]) -> Result<(), RecordFault>
     ensures { TakesLines text.now result }
 {
     let mut rest = text;
@@ -78,14 +78,14 @@ fn take_lines(alloc: Global, timeline: &mut Timeline, text: &[u8]) -> Result<(),
     while let Some(at) = line_feed(rest) {
         number = number.saturating_add(1);
         timeline.reach(number);
-        take_line(alloc, timeline, &rest[..at], number)?;
+        apply_line(alloc, timeline, &rest[..at], number)?;
         rest = &rest[at + 1..];
     }
     timeline.reach(number.saturating_add(1));
     Ok(())
 }
 
-fn take_line(
+fn apply_line(
     alloc: Global,
     timeline: &mut Timeline,
     line: &[u8],

@@ -7,7 +7,7 @@ ghost use Rattle.batch_record.specs.Reading.{GivesAsDefined, claim_told, report_
 
 use crate::pairs::{are_plain_values, are_role_pairs};
 use crate::told::{
-    Begun, Claim, Created, Ended, Passed, PhaseStep, Refused, Reported, Sent, Started, Told,
+    Begun, Claim, Created, Ended, Passed, PhaseStep, RecordedOut, Refused, Reported, Sent, Started,
 };
 use crate::word::{is_plain_place, plain_number, read_need, state_of};
 use crate::words::Words;
@@ -17,51 +17,51 @@ use batch_wire::{command_of, word_of_report};
 
 /// The out of the line, or None if the line is the text of no out. The line comes without its line feed.
 // claim: lines told
-pub fn read_out(line: &[u8]) -> Option<Told<'_>>
+pub fn read_out(line: &[u8]) -> Option<RecordedOut<'_>>
     ensures said { GivesAsDefined out_told result (out_of_line line.now) }
     ensures told { MatchOption result (TellsNothing line.now) (λ told. TellsOut line.now (out_told told)) }
 {
     read_words(Words::of(line))
 }
 
-fn read_words(mut line: Words<'_>) -> Option<Told<'_>>
+fn read_words(mut line: Words<'_>) -> Option<RecordedOut<'_>>
     ensures { GivesAsDefined out_told result (out_of_words (words_left line.entry.rest)) }
 {
     let first = line.next()?;
     if first == b"grant".as_slice() {
-        Some(Told::Granted(read_claim(line)?))
+        Some(RecordedOut::Granted(read_claim(line)?))
     } else if first == b"ask".as_slice() {
-        Some(Told::Asked(read_claim(line)?))
+        Some(RecordedOut::Asked(read_claim(line)?))
     } else if first == b"release".as_slice() {
-        Some(Told::Released(read_claim(line)?))
+        Some(RecordedOut::Released(read_claim(line)?))
     } else if first == b"pass".as_slice() {
-        Some(Told::Passed(read_passed(line)?))
+        Some(RecordedOut::Passed(read_passed(line)?))
     } else if first == b"ok".as_slice() {
         read_ok(line)
     } else if first == b"state".as_slice() {
         let (batch, state) = read_batch(line)?;
-        Some(Told::Stated { batch, state })
+        Some(RecordedOut::Stated { batch, state })
     } else {
         read_others(first, line)
     }
 }
 
 /// Reads the kinds of lines that change no holders, waiting acts or states of batches, and `created`.
-fn read_others<'a>(first: &[u8], line: Words<'a>) -> Option<Told<'a>>
+fn read_others<'a>(first: &[u8], line: Words<'a>) -> Option<RecordedOut<'a>>
     ensures { GivesAsDefined out_told result (other_of first.now (words_left line.entry.rest)) }
 {
     if first == b"begin".as_slice() {
-        Some(Told::Begun(read_begun(line)?))
+        Some(RecordedOut::Begun(read_begun(line)?))
     } else if first == b"end".as_slice() {
-        Some(Told::Ended(read_ended(line)?))
+        Some(RecordedOut::Ended(read_ended(line)?))
     } else if first == b"send".as_slice() {
-        Some(Told::Sent(read_sent(line)?))
+        Some(RecordedOut::Sent(read_sent(line)?))
     } else if first == b"start".as_slice() {
-        Some(Told::Started(read_started(line)?))
+        Some(RecordedOut::Started(read_started(line)?))
     } else if first == b"created".as_slice() {
-        Some(Told::Created(read_created(line)?))
+        Some(RecordedOut::Created(read_created(line)?))
     } else if first == b"refused".as_slice() {
-        Some(Told::Refused(read_refused(line)?))
+        Some(RecordedOut::Refused(read_refused(line)?))
     } else {
         None
     }
@@ -391,25 +391,25 @@ fn read_removed(mut arguments: Words<'_>) -> Option<u64>
 }
 
 /// A reply to an event that was accepted.
-fn read_ok(mut line: Words<'_>) -> Option<Told<'_>>
+fn read_ok(mut line: Words<'_>) -> Option<RecordedOut<'_>>
     ensures { GivesAsDefined out_told result (ok_of (words_left line.entry.rest)) }
 {
     let first = line.next()?;
     if first == b"report".as_slice() {
-        return Some(Told::Reported(read_report(line)?));
+        return Some(RecordedOut::Reported(read_report(line)?));
     }
     if first == b"remove".as_slice() {
         let batch = read_removed(line)?;
-        return Some(Told::Removed { batch });
+        return Some(RecordedOut::Removed { batch });
     }
     read_order(command_of(first)?, line)
 }
 
-fn read_order(command: Command, arguments: Words<'_>) -> Option<Told<'_>>
+fn read_order(command: Command, arguments: Words<'_>) -> Option<RecordedOut<'_>>
     ensures { GivesAsDefined out_told result (order_of_words (Some command) (words_left arguments.entry.rest)) }
 {
     let (batch, state) = read_batch(arguments)?;
-    Some(Told::Ordered {
+    Some(RecordedOut::Ordered {
         command,
         batch,
         state,

@@ -5,7 +5,7 @@ ghost use Rattle.batch_record.specs.Reading.{out_told};
 ghost use Rattle.batch_record.specs.RecordLine.{out_of_line};
 
 use crate::read::read_out;
-use crate::told::Told;
+use crate::told::RecordedOut;
 
 /// The line is no line of a record.
 #[derive(Clone, Copy)]
@@ -14,7 +14,7 @@ pub struct NoRecordLine;
 /// The out of the line, or None if it is a comment or says that an event line was refused before the machine saw it. The
 /// line comes without its line feed.
 // claim: lines of a record
-pub fn read_record_line(line: &[u8]) -> Result<Option<Told<'_>>, NoRecordLine>
+pub fn read_record_line(line: &[u8]) -> Result<Option<RecordedOut<'_>>, NoRecordLine>
     ensures ok { IfOk result (λ told. MatchOption told
         ((is_passed_over line.now ≡ true) × TellsNothing line.now)
         (λ told. (is_passed_over line.now ≡ false) × TellsOut line.now (out_told told))) }

@@ -33,7 +33,7 @@ ghost use Rattle.batch_record.specs.RowsOfRecords.{
 };
 
 // claim: worked reading
-pub fn record_lines()
+pub fn out_lines()
     ensures asked_units { AskedUnits }
     ensures granted_unit { GrantedUnit }
     ensures released_unit { ReleasedUnit }

@@ -8,7 +8,7 @@ ghost use Rattle.batch_record.specs.Kept.{kept_act, kept_claim, kept_claims, sha
 ghost use Rattle.batch_record.specs.Reading.{out_told, claim_told, claim_and_place_told};
 
 use crate::memory::{NoMemory, read_name, read_place};
-use crate::told::{Claim, Passed, Told};
+use crate::told::{Claim, Passed, RecordedOut};
 use batch_matrix::Command;
 use batch_text::{Name, Place};
 use std::alloc::Global;
@@ -117,27 +117,27 @@ impl Standing {
 
 impl Standing {
     /// Applies an out to the shares of holders.
-    pub fn apply_to_holders(&mut self, alloc: Global, told: Told<'_>) -> Result<(), NoMemory>
+    pub fn apply_to_holders(&mut self, alloc: Global, told: RecordedOut<'_>) -> Result<(), NoMemory>
         ensures ok { OnOk result (HoldersAfter self.old.shares.items (out_told told.entry) self.new.shares.items) }
         ensures err { OnErr result (self.new.shares.items ≡ self.old.shares.items) }
     {
         match told {
-            Told::Granted(claim) => self.claim_joins(alloc, claim),
-            Told::Released(claim) => self.claim_leaves(alloc, claim),
-            Told::Passed(told) => self.claim_passes(alloc, told),
+            RecordedOut::Granted(claim) => self.claim_joins(alloc, claim),
+            RecordedOut::Released(claim) => self.claim_leaves(alloc, claim),
+            RecordedOut::Passed(told) => self.claim_passes(alloc, told),
             _ => Ok(()),
         }
     }
 
     /// Applies an out to the shares of waiting acts.
-    pub fn apply_to_waiters(&mut self, alloc: Global, told: Told<'_>) -> Result<(), NoMemory>
+    pub fn apply_to_waiters(&mut self, alloc: Global, told: RecordedOut<'_>) -> Result<(), NoMemory>
         ensures ok { OnOk result (WaitersAfter self.old.shares.items (out_told told.entry) self.new.shares.items) }
         ensures err { OnErr result (self.new.shares.items ≡ self.old.shares.items) }
     {
         match told {
-            Told::Asked(claim) => self.claim_joins(alloc, claim),
-            Told::Granted(claim) => self.claim_leaves(alloc, claim),
-            Told::Ordered { command, batch, .. } => {
+            RecordedOut::Asked(claim) => self.claim_joins(alloc, claim),
+            RecordedOut::Granted(claim) => self.claim_leaves(alloc, claim),
+            RecordedOut::Ordered { command, batch, .. } => {
                 self.end_asks(command, batch);
                 Ok(())
             }

@@ -8,7 +8,7 @@ use crate::batches::Batches;
 use crate::live::LivePhases;
 use crate::memory::NoMemory;
 use crate::standing::Standing;
-use crate::told::Told;
+use crate::told::RecordedOut;
 use std::alloc::Global;
 
 /// Which batches there are, who holds and who waits, and which phases are live. It takes memory for the present state, and none for
@@ -46,7 +46,7 @@ impl Status {
 
     /// Applies one more out. The error is want of memory: the out may be applied in part then, and the record must be read anew.
     // claim: told out by out
-    pub fn apply_out(&mut self, alloc: Global, told: Told<'_>) -> Result<(), NoMemory>
+    pub fn apply_out(&mut self, alloc: Global, told: RecordedOut<'_>) -> Result<(), NoMemory>
         ensures { OnOk result ((tale : Tale) → Keeps self.old tale → Keeps self.new (tale_after tale (out_told told.entry))) }
     {
         self.batches.apply_out(alloc, told)?;

@@ -6,7 +6,7 @@ ghost use Rattle.batch_record.specs.StatusReading.{HasNoFeed, IsRefusedAt, Leads
 ghost use Rattle.batch_record.specs.Standings.{EndsLine, Ends, Feeds, HasRead};
 ghost use Rattle.batch_record.specs.declared.status_reading.StatusFault.TheVariants as faults;
 
-use crate::course::{Course, LineFault};
+use crate::course::{LineFault, RecordCourse};
 use crate::memory::NoMemory;
 use crate::status::Status;
 use crate::text::put;
@@ -46,7 +46,7 @@ impl From<NoMemory> for StatusFault {
 /// A reading in progress: the whole lines so far, and the beginning of the line after them.
 #[derive(Drop)]
 pub struct Reading {
-    pub(crate) course: Course,
+    pub(crate) course: RecordCourse,
     pub(crate) line: Vec<u8>,
     pub(crate) count: u64,
 }
@@ -86,7 +86,7 @@ impl Reading {
         ensures { HasRead result [] }
     {
         Reading {
-            course: Course::new(alloc),
+            course: RecordCourse::new(alloc),
             line: Vec::new(alloc),
             count: 0,
         }

@@ -1,7 +1,7 @@
 //! The bars of a record over time.
 use crate::bars::{Bars, Ending, Share};
 use crate::remark::Remark;
-use crate::told::{Claim, Passed, Told};
+use crate::told::{Claim, Passed, RecordedOut};
 use crate::words::Words;
 use batch_matrix::Command;
 use batch_text::Name;
@@ -68,21 +68,21 @@ impl Timeline {
     }
 
     /// Applies the contents of a line.
-    pub fn apply_out(&mut self, alloc: Global, told: Told<'_>) -> Result<(), AllocError> {
+    pub fn apply_out(&mut self, alloc: Global, told: RecordedOut<'_>) -> Result<(), AllocError> {
         self.block = None;
         match told {
-            Told::Asked(claim) => self.begin(alloc, claim, true),
-            Told::Granted(claim) => {
+            RecordedOut::Asked(claim) => self.begin(alloc, claim, true),
+            RecordedOut::Granted(claim) => {
                 self.end(alloc, claim, true)?;
                 self.begin(alloc, claim, false)
             }
-            Told::Released(claim) => self.end(alloc, claim, false),
-            Told::Passed(passed) => self.hand_over(alloc, passed),
-            Told::Ordered { command, batch, .. } => self.order(alloc, command, batch),
-            Told::Reported(reported) => self.note_unit(alloc, reported.unit),
-            Told::Sent(sent) => self.note_unit(alloc, sent.step.unit),
-            Told::Started(started) => self.note_unit(alloc, started.step.unit),
-            Told::Created(created) => self.note_roles(alloc, created.roles),
+            RecordedOut::Released(claim) => self.end(alloc, claim, false),
+            RecordedOut::Passed(passed) => self.hand_over(alloc, passed),
+            RecordedOut::Ordered { command, batch, .. } => self.order(alloc, command, batch),
+            RecordedOut::Reported(reported) => self.note_unit(alloc, reported.unit),
+            RecordedOut::Sent(sent) => self.note_unit(alloc, sent.step.unit),
+            RecordedOut::Started(started) => self.note_unit(alloc, started.step.unit),
+            RecordedOut::Created(created) => self.note_roles(alloc, created.roles),
             _ => Ok(()),
         }
     }

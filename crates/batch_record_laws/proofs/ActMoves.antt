@@ -2,7 +2,7 @@
 use Rattle.std.proofs.Common.{◌≡◌, ⊎_elim, refl, sym, ◌∙◌, ap, subst, ℕ, zero, suc, pred, ◌<◌, ◌≤◌, ◌+◌, nat_le, arith, List, [], ◌∷◌, ◌++◌, Bool, true, false, not, ◌&&◌, ◌||◌, take, slice_get, map, find, nat_eq, Option, Some, None, inl, length, append-nil, option_map, option_and_then}
 use Rattle.std.proofs.lemmas.{Option.slice_get_within, List.map-append, Bool.and_parts}
 use Rattle.batch_matrix.specs.{declared.state.State.State, declared.command.Command.Command, Matrix.accepts}
-use Rattle.batch_model.{specs.Lists.Has, specs.Lists.Each, specs.Rest.Rest, specs.Rest.Moment, specs.Rest.ready, specs.Rest.asking, specs.Rest.open_act, specs.Rest.live, specs.Rest.freeing, specs.Rest.is_done, specs.Rest.acts, specs.Rest.place_of, specs.Rest.changed_at, specs.Plant.Setup, specs.Plant.InAdvance, specs.Plant.Batch, specs.Plant.Share, specs.Plant.units_in, specs.Plant.Plant, specs.Plant.moment_of, specs.Plant.in_act, specs.Plant.held_in, specs.Plant.holders, specs.ActStates.steps, specs.Standing.IsAwaited, specs.Standing.is_resting, specs.Moves.Move, specs.Moves.send, specs.Moves.release, specs.Moves.pass, specs.Moves.begin, specs.Moves.start, specs.Moves.end, specs.Moves.ask, specs.Moves.grant, specs.Moves.is_running, specs.Moves.is_stopping, specs.Moves.is_stopped, specs.Moves.is_quiet, specs.Moves.is_empty, specs.Moves.passed_on, specs.Moves.beginning, specs.Moves.entering, specs.Moves.last_held, specs.Moves.giving_back, specs.Moves.reserved_place, specs.Moves.handing_over, specs.Moves.line_after, specs.Moves.when, specs.Moves.is_served, specs.Moves.act_move, specs.Moves.freed, specs.Moves.sent, specs.Moves.released, specs.Moves.begun, specs.Moves.ended, specs.Moves.asked, specs.Moves.granted, specs.Moves.batch_after, specs.Moves.after_move, specs.Moves.handed_values, specs.Runs.Out, specs.Runs.move, specs.Records.StartsIdle, specs.Cleared.Ranking, proofs.Members.Has-right, proofs.Members.Each-Has, specs.Standing.IsStandingBatch, specs.Standing.IsStanding}
+use Rattle.batch_model.{specs.Lists.Has, specs.Lists.Each, specs.Rest.Rest, specs.Rest.Moment, specs.Rest.ready, specs.Rest.asking, specs.Rest.open_act, specs.Rest.live, specs.Rest.freeing, specs.Rest.is_done, specs.Rest.acts, specs.Rest.place_of, specs.Rest.changed_at, specs.Plant.Setup, specs.Plant.InAdvance, specs.Plant.Batch, specs.Plant.Share, specs.Plant.units_in, specs.Plant.Plant, specs.Plant.moment_of, specs.Plant.in_act, specs.Plant.held_in, specs.Plant.holders, specs.ActStates.steps, specs.Standing.IsAwaited, specs.Standing.is_resting, specs.Moves.Move, specs.Moves.send, specs.Moves.release, specs.Moves.pass, specs.Moves.begin, specs.Moves.start, specs.Moves.end, specs.Moves.ask, specs.Moves.grant, specs.Moves.is_running, specs.Moves.is_stopping, specs.Moves.is_stopped, specs.Moves.is_quiet, specs.Moves.is_empty, specs.Moves.command_passed_on, specs.Moves.beginning, specs.Moves.entering, specs.Moves.last_held, specs.Moves.giving_back, specs.Moves.reserved_place, specs.Moves.handing_over, specs.Moves.line_after, specs.Moves.when, specs.Moves.is_served, specs.Moves.act_move, specs.Moves.freed, specs.Moves.sent, specs.Moves.released, specs.Moves.begun, specs.Moves.ended, specs.Moves.asked, specs.Moves.granted, specs.Moves.batch_after, specs.Moves.after_move, specs.Moves.handed_values, specs.Runs.Out, specs.Runs.move, specs.Records.StartsIdle, specs.Cleared.Ranking, proofs.Members.Has-right, proofs.Members.Each-Has, specs.Standing.IsStandingBatch, specs.Standing.IsStanding}
 use Rattle.batch_recipe.specs.{Conditions.Name, Conditions.ValueList, Following.follower, Tree.Place, Tree.Reserve, Tree.Step, Tree.Phase, Tree.Task, Tree.runs, Tree.follows, Tree.Tree, declared.need.Need.Need}
 use Rattle.batch_record_laws.proofs.{PlantFacts.holding, PlantFacts.awaiting, PlantFacts.performing, PlantFacts.Standing, PlantFacts.held_at, PlantFacts.awaited_at, PlantFacts.facts, PlantFacts.early_facts, PlantFacts.batch_facts, PlantFacts.Entry, PlantFacts.entries, PlantFacts.holders_among, FactsAfterAdvance.reach-facts, FactsAfterAdvance.done-facts, HoldingsInAdvance.at_moment, HoldingsInAdvance.Nowhere, HoldingsInAdvance.IsSteady, HoldingsInAdvance.IsTidy, DuePlaces.awaited-nowhere, EffectsOnActs.stays-steady, EffectsOnActs.stays-tidy, EffectsOnActs.sent-stays, EffectsOnActs.released-stays, EffectsOnActs.ended-stays, EffectsOnActs.asked-stays, EffectsOnActs.granted-stays, EffectsOnActs.begun-steady, EffectsOnActs.begun-tidy, UnitProcedures.find-passes, SameFacts.AreAlike, SameFacts.left_over, BatchProgress.GoesOn, BatchProgress.HoldsAhead, BatchProgress.kept-on, BatchProgress.all-alike, BatchProgress.act-step_in, BatchProgress.is_under_way, BatchProgress.fits-under_way, BatchProgress.early-none, RanksOfAsks.rises-next, FactsAfterChange.Frame, FactsAfterChange.frame, FactsAfterChange.needs_of, FactsAfterChange.NeedsRise, FactsAfterChange.needs-rise, Entries.frame-middle, Entries.nat_same, Batches.holders-entries, Batches.only, Invariant.IsFitting, Invariant.IsFirstNeed, Invariant.AreFirstNeeds, Invariant.IsSound, Invariant.IsKept, AbsentFacts.quiet-performs_nothing, AbsentFacts.holding-nothing, AbsentFacts.no_facts, AbsentFacts.fit-stopping, PhaseStarts.starts-nothing, PhaseStarts.starts-idle, ActChanges.changed_plant, ActChanges.nothing, ActChanges.also, ActChanges.IsApart, ActChanges.stays, ActChanges.comes, ActChanges.IsChange, ActChanges.change-sound, ActChanges.Becomes, ActChanges.Lacks, ActChanges.not_performing, InvariantAfterChange.kept-quiet, InvariantAfterChange.kept-started, InvariantAfterChange.kept-asked, InvariantAfterChange.kept-granted, InvariantAfterChange.kept-released, InvariantAfterChange.kept-passed, InvariantAfterChange.not-held-yet, InvariantAfterChange.act_frame, InvariantAfterChange.apart-here, Invariant.standing-of}
 use Rattle.batch_step_laws.proofs.{DueUnitProcedures.follower-due, RestsAfterChange.RemainsAs, RestsAfterChange.sent-remains, RestsAfterChange.released-remains, RestsAfterChange.ended-remains, RestsAfterChange.begun-remains, HoldersInAdvance.begun-busy, WorkAfterMove.one_act, ActOrder.acts-rise}
@@ -400,7 +400,7 @@ module _ (d : Setup) (rank : Ranking) (outs : List Out) (s : Plant) (sd : IsStan
       go true f = back (is_stopping b.state && is_quiet b.rest && is_empty (held_in r)) refl f
 
   step-live : (p : Step) (x : Phase) (t : State) (m : Move) → Has (acts b.rest) (live p x t) → act_move d s b (live p x t) ≡ Some m → Stepped d rank outs s m
-  step-live p x t m j e = go (passed_on b.state) e
+  step-live p x t m j e = go (command_passed_on b.state) e
     where
       pass : (c : Command) (u : Bool) → when u (send b.number p.place x c) ≡ Some m → Stepped d rank outs s m
       pass c true f = subst (Stepped d rank outs s) (some_move (send b.number p.place x c) m f) (step-send p x t c j)

@@ -2,7 +2,7 @@
 use Rattle.std.proofs.Common.{arith, ◌≡◌, refl, sym, ◌∙◌, ap, subst, ℕ, ◌+◌, List, [], ◌∷◌, true, false, ◌&&◌, ◌||◌, not, map, length, nat_le, IsTrue, Option, Some, None, inl, inr}
 use Rattle.std.{proofs.lemmas.Bool.and_parts, proofs.lemmas.Bool.Decides.nat_tests, specs.List.list_all}
 use Rattle.batch_cell.specs.declared.cell.Cell as equipment
-use Rattle.batch_recipe.specs.{Conditions.Name, Conditions.same_name, Diagram.Diagram, Diagram.Diagrams, Diagram.Cases, Diagram.diagram_of, Expanding.Binding, Expanding.unbound, Expanding.Sites, Expanding.unit_chosen, Expanding.unit_with, Expanding.unit_below, Expanding.unit_count, Expanding.unit_named, Expanding.asked_in_order, Expanding.reserves_from, Expanding.expanded, Expanding.expanded_each, Expanding.expanded_cases, Expanding.task_of, Expanding.act_named, Expanding.act_tree_with, Expanding.named_tree_with, Needs.resources_needed, Nodes.child, Tree.Place, Tree.Tree, Tree.act, Tree.skip, Tree.seq, Tree.par, Tree.sel, Tree.loop, Tree.Trees, Tree.Choices, Tree.Step, Tree.follows, ActsAtNodes.procedure_acts, WellFormed.reserves_none, WellFormed.has_unit, WellFormed.has_chart, WellFormed.is_among, WellFormed.are_distinct, WellFormed.is_role_among, declared.act.Act.Act, declared.act.UnitChoice.UnitChoice, declared.act.UnitChoice.TheVariants.Unit, declared.act.UnitChoice.TheVariants.Role, declared.act.Work.Work, declared.act.Work.TheVariants.Follows, declared.act.Work.TheVariants.Runs, declared.condition.Cond.Cond}
+use Rattle.batch_recipe.specs.{Conditions.Name, Conditions.same_name, Diagram.Diagram, Diagram.Diagrams, Diagram.Cases, Diagram.diagram_of, Expanding.Binding, Expanding.unbound, Expanding.Sites, Expanding.unit_chosen, Expanding.unit_with, Expanding.unit_below, Expanding.unit_count, Expanding.unit_named, Expanding.asked_in_order, Expanding.reserves_from, Expanding.expanded, Expanding.expanded_each, Expanding.expanded_cases, Expanding.task_of, Expanding.act_named, Expanding.act_tree_with, Expanding.named_tree_with, Needs.resources_needed, Nodes.child, Tree.Place, Tree.Tree, Tree.act, Tree.skip, Tree.seq, Tree.par, Tree.sel, Tree.loop, Tree.Trees, Tree.Choices, Tree.Step, Tree.follows, ActsAtNodes.procedure_acts, WellFormed.reserves_none, WellFormed.has_unit, WellFormed.has_chart, WellFormed.is_among, WellFormed.are_distinct, WellFormed.is_role_among, declared.act.Act.Act, declared.act.UnitChoice.UnitChoice, declared.act.UnitChoice.TheVariants.Unit, declared.act.UnitChoice.TheVariants.Role, declared.act.Work.Work, declared.act.Work.TheVariants.Follows, declared.act.Work.TheVariants.Runs, declared.condition.Condition.Condition}
 use Rattle.batch_recipe.specs.Diagram as chart
 use Rattle.batch_recipe.specs.declared.recipe.Recipe as document
 use Rattle.batch_model.{specs.Lists.Has, specs.Lists.Each, specs.Plant.Role as Declared, specs.Plant.Setup, specs.Cleared.Ranking, specs.Cleared.Part, specs.Cleared.is_procedure, specs.Cleared.in_procedure, specs.Cleared.part, specs.Cleared.parts, specs.Cleared.parts_of_each, specs.Cleared.parts_of_choices, specs.Cleared.surely_runs, specs.Cleared.IsServed, specs.Cleared.IsClear, specs.Cleared.HasCandidates, specs.Cleared.IsClearedRecipe, specs.Setups.labels, specs.Setups.labels_of_each, specs.Setups.labels_of_cases, specs.Setups.labels_of, specs.Setups.reserve_role, specs.Setups.master_of, proofs.Bindings.HaveNoUnits, proofs.Bindings.list_all-Has, proofs.Bindings.none-chosen, proofs.Bindings.no-units-below, proofs.Bindings.unit-of-each, proofs.Bindings.on-chosen, proofs.Bindings.chart-same-runs, proofs.Bindings.label-same-runs, proofs.Members.Has-left, proofs.Members.Has-right, proofs.Members.Each-append, proofs.Members.find-Has}
@@ -20,7 +20,7 @@ module _ (setup : Setup) (rank : Ranking) where
   sel-clear : (p : Place) (asked : List Name) (ts us : Choices) → IsClear setup rank (part in_procedure p asked (sel ts)) → IsClear setup rank (part in_procedure p asked (sel us))
   sel-clear p asked ts us h = record { known = tt; on_unit = tt; within = tt; offered = tt; apart = tt; turning = tt; rising = h.rising }
 
-  loop-clear : (p : Place) (asked : List Name) (n : ℕ) (c : Cond) (t u : Tree) → surely_runs t ≡ surely_runs u → IsClear setup rank (part in_procedure p asked (loop n c t))
+  loop-clear : (p : Place) (asked : List Name) (n : ℕ) (c : Condition) (t u : Tree) → surely_runs t ≡ surely_runs u → IsClear setup rank (part in_procedure p asked (loop n c t))
       → IsClear setup rank (part in_procedure p asked (loop n c u))
   loop-clear p asked n c t u e h =
       record { known = tt; on_unit = tt; within = tt; offered = tt; apart = tt; turning = subst IsTrue e h.turning; rising = h.rising }

@@ -1,6 +1,6 @@
 -- Moves and reports change an act at its own place alone, and leave the holdings in advance as they are.
 use Rattle.std.proofs.Common.{◌≡◌, refl, sym, ◌∙◌, ap, ℕ, zero, suc, pred, [], length, inl, inr}
-use Rattle.batch_matrix.specs.declared.{command.Command.Command, report.PhaseEnd.PhaseEnd, report.PhaseEnd.TheVariants.Ended, report.PhaseEnd.TheVariants.Now, report.PhaseEnd.TheVariants.Same, state.State.State}
+use Rattle.batch_matrix.specs.declared.{command.Command.Command, report.ReportOutcome.ReportOutcome, report.ReportOutcome.TheVariants.Ended, report.ReportOutcome.TheVariants.Now, report.ReportOutcome.TheVariants.Same, state.State.State}
 use Rattle.batch_recipe.specs.{Conditions.ValueList, Tree.Step, Tree.runs, Tree.follows}
 use Rattle.batch_model.specs.{Events.phase_after, Lists.Has, Moves.freed, Moves.sent, Moves.released, Moves.begun, Moves.ended, Moves.asked, Moves.granted, Rest.Rest, Rest.ready, Rest.asking, Rest.open_act, Rest.live, Rest.freeing, Rest.in_seq, Rest.in_par, Rest.in_loop, Rest.done, Rest.acts, Rest.place_of}
 use Rattle.batch_record_laws.proofs.HoldingsInAdvance.{at_moment, lifted-none, reach-lifted, reach-fresh, StandsIn, IsTidy, IsSteady}
@@ -91,7 +91,7 @@ now-stays now (in_par rs) x i = (x, i, refl)
 now-stays now (in_loop m d b r) x i = (x, i, refl)
 now-stays now done x i = (x, i, refl)
 
-pub phase_after-stays : (e : PhaseEnd) → Stays (phase_after e)
+pub phase_after-stays : (e : ReportOutcome) → Stays (phase_after e)
 phase_after-stays Ended a x i = ended-stays a x i
 phase_after-stays (Now now) a x i = now-stays now a x i
 phase_after-stays Same a x i = (x, i, refl)

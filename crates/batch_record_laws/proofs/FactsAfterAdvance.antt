@@ -1,7 +1,7 @@
 -- Reaching a chart and advancing change no facts; withdrawing takes the asks away.
 use Rattle.std.proofs.Common.{arith, ◌≡◌, refl, sym, ◌∙◌, ap, ap₂, ℕ, pred, List, [], ◌∷◌, ◌++◌, Bool, true, false, filter, take, slice_get, Option, append-nil}
 use Rattle.std.proofs.lemmas.{List.Elements.filter-append, Bool.and_parts}
-use Rattle.batch_recipe.specs.{Conditions.ValueList, Conditions.holds, declared.condition.Cond.Cond, Tree.Place, Tree.Tree, Tree.act, Tree.skip, Tree.seq, Tree.par, Tree.sel, Tree.loop, Tree.Trees, Tree.no_trees, Tree.tree, Tree.Choices, Tree.otherwise, Tree.choice, declared.need.Need.Need}
+use Rattle.batch_recipe.specs.{Conditions.ValueList, Conditions.holds, declared.condition.Condition.Condition, Tree.Place, Tree.Tree, Tree.act, Tree.skip, Tree.seq, Tree.par, Tree.sel, Tree.loop, Tree.Trees, Tree.no_trees, Tree.tree, Tree.Choices, Tree.otherwise, Tree.choice, declared.need.Need.Need}
 use Rattle.batch_model.specs.Rest.{Rest, ready, asking, open_act, live, freeing, in_seq, in_par, in_loop, done, Rests, no_rests, rest, is_done, all_done, joined, turning, reach, reach_first, reach_each, reach_chosen, turned, advance, advance_each, withdrawn, withdrawn_each}
 use Rattle.batch_record_laws.proofs.{HoldingsInAdvance.at_moment, PlantFacts.holding, PlantFacts.awaiting, PlantFacts.performing, PlantFacts.Standing, PlantFacts.held_at, PlantFacts.awaited_at, PlantFacts.facts, PlantFacts.facts_of_each}
 
@@ -17,7 +17,7 @@ all_done-facts (rest r rs) e =
 joined-facts : (rs : Rests) → facts (joined rs) ≡ facts_of_each rs
 joined-facts rs = grind (arith, all_done-facts)
 
-turning-facts : (n : ℕ) (c : Cond) (body : Tree) (r : Rest) → facts (turning n c body r) ≡ facts r
+turning-facts : (n : ℕ) (c : Condition) (body : Tree) (r : Rest) → facts (turning n c body r) ≡ facts r
 turning-facts n c body r = grind (arith, done-facts)
 
 in_order-facts : (r after : Rest) (cs : Trees) → facts after ≡ [] → facts (elim (is_done r) [ true ↦ after | false ↦ in_seq r cs ]) ≡ facts r
@@ -48,7 +48,7 @@ mutual
   reach_chosen-facts vs (otherwise c) = reach-facts vs c
   reach_chosen-facts vs (choice p c ch) = either-facts (holds vs p) (reach (at_moment vs []) c) (reach_chosen (at_moment vs []) ch) (reach-facts vs c) (reach_chosen-facts vs ch)
 
-turned-facts : (vs : ValueList) (n : ℕ) (c : Cond) (body : Tree) (r : Rest) → facts (turned (at_moment vs []) n c body r) ≡ facts r
+turned-facts : (vs : ValueList) (n : ℕ) (c : Condition) (body : Tree) (r : Rest) → facts (turned (at_moment vs []) n c body r) ≡ facts r
 turned-facts vs n c body r = grind (arith, turning-facts, either-facts, reach-facts, done-facts)
 
 mutual

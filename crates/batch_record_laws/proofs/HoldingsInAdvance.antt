@@ -1,7 +1,7 @@
 -- Holdings in advance pass to the acts that are reached: these hold them from then on.
 use Rattle.std.proofs.Common.{arith, ◌≡◌, refl, sym, ◌∙◌, ap, ap₂, subst, ℕ, ◌+◌, zero, suc, pred, List, [], ◌∷◌, ◌++◌, Bool, true, false, ◌||◌, ◌&&◌, map, take, length, inl, inr, ◌⊎◌, ⊎_elim, append_assoc}
 use Rattle.std.{specs.List.list_any, proofs.lemmas.List.map-append}
-use Rattle.batch_recipe.specs.{Conditions.ValueList, Conditions.holds, declared.condition.Cond.Cond, declared.need.Need.Need, Nodes.child, Tree.Place, Tree.Step, Tree.Task, Tree.runs, Tree.follows, Tree.Tree, Tree.act, Tree.skip, Tree.seq, Tree.par, Tree.sel, Tree.loop, Tree.Trees, Tree.no_trees, Tree.tree, Tree.Choices, Tree.otherwise, Tree.choice}
+use Rattle.batch_recipe.specs.{Conditions.ValueList, Conditions.holds, declared.condition.Condition.Condition, declared.need.Need.Need, Nodes.child, Tree.Place, Tree.Step, Tree.Task, Tree.runs, Tree.follows, Tree.Tree, Tree.act, Tree.skip, Tree.seq, Tree.par, Tree.sel, Tree.loop, Tree.Trees, Tree.no_trees, Tree.tree, Tree.Choices, Tree.otherwise, Tree.choice}
 use Rattle.batch_model.{specs.Lists.Has, specs.Placed.IsPlaced, specs.Placed.IsPlacedBelow, specs.Placed.ArePlaced, specs.Placed.IsChoicePlaced, specs.Plant.InAdvance, specs.Plant.is_act_reached, specs.Rest.Rest, specs.Rest.Moment, specs.Rest.ready, specs.Rest.asking, specs.Rest.open_act, specs.Rest.live, specs.Rest.freeing, specs.Rest.in_seq, specs.Rest.in_par, specs.Rest.in_loop, specs.Rest.done, specs.Rest.Rests, specs.Rest.no_rests, specs.Rest.rest, specs.Rest.same_place, specs.Rest.is_done, specs.Rest.all_done, specs.Rest.joined, specs.Rest.turning, specs.Rest.reach, specs.Rest.reach_first, specs.Rest.reach_each, specs.Rest.reach_chosen, specs.Rest.continued, specs.Rest.turned, specs.Rest.advance, specs.Rest.advance_each, specs.Rest.acts, specs.Rest.acts_of_each, specs.Rest.place_of, specs.Rest.changed_at, specs.Rest.changed_in_each, specs.Standing.IsRestOf, specs.Standing.IsRestBelow, specs.Standing.IsBranch, specs.Standing.AreBranches, specs.Standing.IsChosen, proofs.Members.Has-split, proofs.Members.Has-left, proofs.Members.Has-right}
 use Rattle.batch_step_laws.proofs.WorkAfterChange.{to_same_place, same_test}
 use Rattle.batch_record_laws.proofs.{PlantFacts.holding, PlantFacts.Standing, PlantFacts.held_at, PlantFacts.facts, PlantFacts.facts_of_each, FactsAfterChange.miss, FactsAfterChange.at_or_above, Members.Has-map, Members.map-Has, FactPlaces.IsUnderChild, FactPlaces.IsUnderLater, FactPlaces.under_child, FactPlaces.acts-under, FactPlaces.acts-side_by_side, FactPlaces.children_apart}
@@ -68,7 +68,7 @@ continued-lifted h r later after cs e =
     ap (λ t. elim t [ true ↦ later | false ↦ in_seq (lifted h r) cs ]) (lifted-done h r)
     ∙ either-lifted h (is_done r) later (in_seq (lifted h r) cs) after (in_seq r cs) e refl
 
-looped-lifted : (h : Place) (n : ℕ) (c : Cond) (body : Tree) (r later after : Rest) → later ≡ lifted h after
+looped-lifted : (h : Place) (n : ℕ) (c : Condition) (body : Tree) (r later after : Rest) → later ≡ lifted h after
     → elim (is_done (lifted h r)) [ true ↦ later | false ↦ in_loop n c body (lifted h r) ] ≡ lifted h (elim (is_done r) [ true ↦ after | false ↦ in_loop n c body r ])
 looped-lifted h n c body r later after e =
     ap (λ t. elim t [ true ↦ later | false ↦ in_loop n c body (lifted h r) ]) (lifted-done h r)
@@ -113,7 +113,7 @@ module _ (vs : ValueList) (h : Place) (early : List Place) where
     reach_chosen-lifted (choice p c ch) =
         either-lifted h (holds vs p) (reach After c) (reach_chosen After ch) (reach Before c) (reach_chosen Before ch) (reach-lifted c) (reach_chosen-lifted ch)
 
-  turned-lifted : (n : ℕ) (c : Cond) (body : Tree) (r : Rest) → turned After n c body (lifted h r) ≡ lifted h (turned Before n c body r)
+  turned-lifted : (n : ℕ) (c : Condition) (body : Tree) (r : Rest) → turned After n c body (lifted h r) ≡ lifted h (turned Before n c body r)
   turned-lifted zero c body r = looped-lifted h 0 c body r done done refl
   turned-lifted (suc n) c body r =
       ap (λ t. elim t [ false ↦ in_loop (suc n) c body (lifted h r) | true ↦ elim (holds vs c) [ true ↦ done | false ↦ turning n c body (reach After body) ] ]) (lifted-done h r)
@@ -521,7 +521,7 @@ module _ (vs : ValueList) where
     reach_chosen-fresh (otherwise c) a i = reach-fresh c a i
     reach_chosen-fresh (choice p c ch) a i = either-acts a (IsFresh a) (holds vs p) (reach Empty c) (reach_chosen Empty ch) (reach-fresh c a) (reach_chosen-fresh ch a) i
 
-  turned-fresh : (old : List Rest) (n : ℕ) (c : Cond) (body : Tree) (r a : Rest) → (Has (acts r) a → IsSameOrFresh old a) → Has (acts (turned Empty n c body r)) a → IsSameOrFresh old a
+  turned-fresh : (old : List Rest) (n : ℕ) (c : Condition) (body : Tree) (r a : Rest) → (Has (acts r) a → IsSameOrFresh old a) → Has (acts (turned Empty n c body r)) a → IsSameOrFresh old a
   turned-fresh old zero c body r a h i = either-acts a (IsSameOrFresh old a) (is_done r) done (in_loop 0 c body r) (λ j. absurd j) h i
   turned-fresh old (suc n) c body r a h i = go (is_done r) i
     where

@@ -1,6 +1,6 @@
 -- Each report keeps the invariant, and so does each event.
 use Rattle.std.proofs.Common.{arith, ◌≡◌, refl, sym, ◌∙◌, ap, subst, subst₂, ℕ, List, [], ◌∷◌, ◌++◌, Bool, true, false, ◌&&◌, find, Option, Some, None, inl, inr, nat_eq, length, bytes_eq}
-use Rattle.batch_matrix.specs.{declared.state.State.State, declared.state.State.TheVariants.Holding, declared.command.Command.TheVariants.Hold, declared.report.Report.Report, declared.report.PhaseEnd.PhaseEnd, declared.report.PhaseEnd.TheVariants.Ended, declared.report.PhaseEnd.TheVariants.Now, declared.report.PhaseEnd.TheVariants.Same, Matrix.accepts, Matrix.after_report}
+use Rattle.batch_matrix.specs.{declared.state.State.State, declared.state.State.TheVariants.Holding, declared.command.Command.TheVariants.Hold, declared.report.Report.Report, declared.report.ReportOutcome.ReportOutcome, declared.report.ReportOutcome.TheVariants.Ended, declared.report.ReportOutcome.TheVariants.Now, declared.report.ReportOutcome.TheVariants.Same, Matrix.accepts, Matrix.after_report}
 use Rattle.std.{specs.Option.option_or, proofs.lemmas.List.append-nil}
 use Rattle.batch_model.{specs.Lists.Has, specs.Rest.Rest, specs.Rest.ready, specs.Rest.asking, specs.Rest.open_act, specs.Rest.live, specs.Rest.freeing, specs.Rest.in_seq, specs.Rest.in_par, specs.Rest.in_loop, specs.Rest.done, specs.Rest.acts, specs.Rest.place_of, specs.Rest.changed_at, specs.Plant.Formula, specs.Plant.size_out_of_range, specs.Plant.value_out_of_range, specs.Plant.scaled, specs.Plant.Recipe, specs.Plant.Master, specs.Plant.Setup, specs.Plant.Batch, specs.Plant.Plant, specs.Plant.batch_at, specs.Plant.in_batch, specs.Moves.Move, specs.Moves.ended, specs.Moves.next, specs.Events.Event, specs.Events.create, specs.Events.order, specs.Events.remove, specs.Events.report, specs.Events.Reply, specs.Events.reported, specs.Events.refused, specs.Events.unknown_recipe, specs.Events.bad_binding, specs.Events.binding, specs.Events.is_binding, specs.Events.bound_by, specs.Events.roles_told, specs.Events.creating_for, specs.Events.unknown_batch, specs.Events.no_live_phase, specs.Events.report_not_expected, specs.Events.bad_output, specs.Events.output_left_out, specs.Events.owed, specs.Events.accepting, specs.Events.bad_size, specs.Events.bad_value, specs.Events.full, specs.Events.moves_pending, specs.Events.no_memory, specs.Events.is_full, specs.Events.creating, specs.Events.ordering, specs.Events.removing, specs.Events.LivePhase, specs.Events.live_in, specs.Events.live_phase, specs.Events.phase_after, specs.Events.batch_state_after, specs.Events.outputs_of, specs.Events.batch_reported, specs.Events.reporting, specs.Events.judged, specs.Events.react, specs.Runs.Out, specs.Runs.reply, specs.Runs.Reacts, specs.Records.Active, specs.Records.active_after, specs.Records.ends_phase, proofs.Members.Each-Has, specs.Cleared.Ranking, specs.Standing.IsAwaited, specs.Standing.IsControl, specs.Standing.IsStandingBatch, specs.Standing.IsStanding}
 use Rattle.batch_recipe.specs.{Conditions.Name, Conditions.ValueList, Tree.Place, Tree.Phase, Tree.Step, Values.with_values, Values.are_outputs, Values.left_out}
@@ -114,11 +114,11 @@ module _ (d : Setup) (rank : Ranking) (outs : List Out) (s : Plant) (sd : IsStan
   here : IsStandingBatch d b
   here = standing-of d s sd b i
 
-  only_act : (e : PhaseEnd) → (a : Rest) → Has (acts b.rest) a → place_of a ≡ p.place → RemainsAs a (phase_after e a)
+  only_act : (e : ReportOutcome) → (a : Rest) → Has (acts b.rest) a → place_of a ≡ p.place → RemainsAs a (phase_after e a)
   only_act e a j' q = phase_after-remains e a
 
   -- it goes on from there
-  gone_on : (o : List Out) (e : PhaseEnd) → IsKept d rank o (changed_plant s b.number (told (phase_after e)) s.line) → IsKept d rank o (changed_plant s b.number (batch_reported word outputs p.place e) s.line)
+  gone_on : (o : List Out) (e : ReportOutcome) → IsKept d rank o (changed_plant s b.number (told (phase_after e)) s.line) → IsKept d rank o (changed_plant s b.number (batch_reported word outputs p.place e) s.line)
   gone_on o e =
       kept-on d rank o s sd b i fine here p.place (λ moment. phase_after e) (with_values outputs b.values) b.in_advance (told (phase_after e)) (batch_reported word outputs p.place e)
       (record { number = refl; changed = refl; early = refl; same_number = refl; same_recipe = refl; same_state = refl; advanced = refl; left = refl })
@@ -131,7 +131,7 @@ module _ (d : Setup) (rank : Ranking) (outs : List Out) (s : Plant) (sd : IsStan
       (λ z. early-none d b here (under_way-before word b.state z)) s.line
 
   -- a report that leaves the phase live
-  kept-reported : (e : PhaseEnd) → facts (phase_after e (live p x t)) ≡ facts (live p x t) → ends_phase word ≡ false
+  kept-reported : (e : ReportOutcome) → facts (phase_after e (live p x t)) ≡ facts (live p x t) → ends_phase word ≡ false
       → IsKept d rank (outs ++ reply (reported unit name word b.number p.place then_state) ∷ []) (changed_plant s b.number (batch_reported word outputs p.place e) s.line)
   kept-reported e same ends =
       let f : Rest → Rest = phase_after e in
@@ -144,7 +144,7 @@ module _ (d : Setup) (rank : Ranking) (outs : List Out) (s : Plant) (sd : IsStan
       (fit-reported word b.state (facts (g b).rest) (subst (IsFitting b.state) (sym quiet) fine.fits)))
       (ap (λ z. early_facts b.in_advance ++ z) quiet) tells (λ q hs. refl) (λ q ws. refl) (λ xs. not_ending word unit name b.number p.place then_state xs ends))
 
-  reported-step : (e : PhaseEnd) → after_report t word ≡ Some e
+  reported-step : (e : ReportOutcome) → after_report t word ≡ Some e
       → IsKept d rank (outs ++ reply (reported unit name word b.number p.place then_state) ∷ []) (changed_plant s b.number (batch_reported word outputs p.place e) s.line)
   reported-step Ended q =
       let ends : ends_phase word ≡ true = ended-word t word q in
@@ -161,23 +161,23 @@ module _ (d : Setup) (rank : Ranking) (cleared : AreClearedDown d rank) (outs : 
       → Answered d rank outs (reporting s unit name word outputs l)
   reporting-step unit name word outputs b i l h = go (after_report l.state word) refl
     where
-      at_place : (e : PhaseEnd) → after_report l.state word ≡ Some e
+      at_place : (e : ReportOutcome) → after_report l.state word ≡ Some e
           → Answered d rank outs (reported unit name word l.batch.number l.place (batch_state_after word l.batch.state), in_batch l.batch.number (batch_reported word outputs l.place e) s)
       at_place e q =
           subst (λ z. Answered d rank outs (reported unit name word z.number l.place (batch_state_after word z.state), in_batch z.number (batch_reported word outputs l.place e) s)) (sym h.4)
           (subst (λ z. Answered d rank outs (reported unit name word b.number z (batch_state_after word b.state), in_batch b.number (batch_reported word outputs z e) s)) h.3
           (reported-step d rank outs s sd k b i unit name word outputs h.0 h.1 l.state h.2 e q))
 
-      accepted : (e : PhaseEnd) → after_report l.state word ≡ Some e → (o : Option Name) → Answered d rank outs (accepting s unit name word outputs l e o)
+      accepted : (e : ReportOutcome) → after_report l.state word ≡ Some e → (o : Option Name) → Answered d rank outs (accepting s unit name word outputs l e o)
       accepted e q (Some output) = kept-refused d rank outs s (output_left_out output) k
       accepted e q None = at_place e q
 
-      outs_of : (e : PhaseEnd) → after_report l.state word ≡ Some e → (t : Bool)
+      outs_of : (e : ReportOutcome) → after_report l.state word ≡ Some e → (t : Bool)
           → Answered d rank outs (elim t [ false ↦ (refused bad_output, s) | true ↦ accepting s unit name word outputs l e (left_out (owed l.state word l.phase.reports) outputs) ])
       outs_of e q false = kept-refused d rank outs s bad_output k
       outs_of e q true = accepted e q (left_out (owed l.state word l.phase.reports) outputs)
 
-      go : (o : Option PhaseEnd) → after_report l.state word ≡ o
+      go : (o : Option ReportOutcome) → after_report l.state word ≡ o
           → Answered d rank outs
           (elim o [
             | None ↦ (refused (report_not_expected l.state), s)

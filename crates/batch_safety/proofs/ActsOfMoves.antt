@@ -3,7 +3,7 @@ use Rattle.std.proofs.Common.{arith, ◌≡◌, refl, sym, ◌∙◌, ap, subst,
 use Rattle.std.specs.Prelude.{⊤, ◌&&◌, ◌||◌, not}
 use Rattle.batch_matrix.specs.{declared.command.Command.Command, Matrix.accepts}
 use Rattle.batch_recipe.specs.{declared.need.Need.Need, Tree.Place, Tree.Step, Tree.Task, Tree.Tree, Tree.runs, Tree.follows}
-use Rattle.batch_model.specs.{Moves.Move, Moves.send, Moves.release, Moves.pass, Moves.begin, Moves.start, Moves.end, Moves.ask, Moves.grant, Moves.is_running, Moves.is_stopping, Moves.is_stopped, Moves.is_quiet, Moves.is_empty, Moves.is_served, Moves.passed_on, Moves.handed_values, Moves.beginning, Moves.entering, Moves.giving_back, Moves.reserved_place, Moves.handing_over, Moves.when, Moves.act_move, Plant.Setup, Plant.Batch, Plant.Plant, Plant.held_in, Rest.Rest, Rest.ready, Rest.asking, Rest.open_act, Rest.live, Rest.freeing, Rest.is_done, Runs.goes_on}
+use Rattle.batch_model.specs.{Moves.Move, Moves.send, Moves.release, Moves.pass, Moves.begin, Moves.start, Moves.end, Moves.ask, Moves.grant, Moves.is_running, Moves.is_stopping, Moves.is_stopped, Moves.is_quiet, Moves.is_empty, Moves.is_served, Moves.command_passed_on, Moves.handed_values, Moves.beginning, Moves.entering, Moves.giving_back, Moves.reserved_place, Moves.handing_over, Moves.when, Moves.act_move, Plant.Setup, Plant.Batch, Plant.Plant, Plant.held_in, Rest.Rest, Rest.ready, Rest.asking, Rest.open_act, Rest.live, Rest.freeing, Rest.is_done, Runs.goes_on}
 use Rattle.batch_record_laws.proofs.ActMoves.{some_move, no_move}
 use Rattle.batch_step_laws.proofs.ActMoves.{stopping-goes_no_further}
 
@@ -92,7 +92,7 @@ module _ (b : Batch) where
       go true h true f = back-made p (length p.needs) m (open_act p r) (ap not h) f
       go true h false f = absurd (no_move m f)
       go false h u f = when-made (is_done r) (end b.number p.place) m (open_act p r) tt f
-  act_move-made d s (live p y t) m e = go (passed_on b.state) e
+  act_move-made d s (live p y t) m e = go (command_passed_on b.state) e
     where
       go : (o : Option Command) → ◌≡◌ {A = Option Move} (elim o [ None ↦ None | Some c ↦ when (accepts t c) (send b.number p.place y c) ]) (Some m) → IsMade b (live p y t) m
       go None f = absurd (no_move m f)

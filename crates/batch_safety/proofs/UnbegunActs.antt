@@ -1,8 +1,8 @@
 -- An act that isn't begun stays so until a move begins the act at its place.
 use Rattle.std.proofs.Common.{◌≡◌, refl, sym, ◌∙◌, ap, subst, ℕ, zero, suc, pred, List, length, Bool, true, false, inl, inr, ⊎_elim}
 use Rattle.std.specs.Prelude.{⊤}
-use Rattle.batch_matrix.specs.declared.{command.Command.Command, report.PhaseEnd.PhaseEnd, report.PhaseEnd.TheVariants.Ended, report.PhaseEnd.TheVariants.Now, report.PhaseEnd.TheVariants.Same, state.State.State}
-use Rattle.batch_recipe.specs.{declared.condition.Cond.Cond, Conditions.holds, Tree.Place, Tree.Step, Tree.runs, Tree.follows, Tree.Tree, Tree.act, Tree.skip, Tree.seq, Tree.par, Tree.sel, Tree.loop, Tree.Trees, Tree.no_trees, Tree.tree, Tree.Choices, Tree.otherwise, Tree.choice}
+use Rattle.batch_matrix.specs.declared.{command.Command.Command, report.ReportOutcome.ReportOutcome, report.ReportOutcome.TheVariants.Ended, report.ReportOutcome.TheVariants.Now, report.ReportOutcome.TheVariants.Same, state.State.State}
+use Rattle.batch_recipe.specs.{declared.condition.Condition.Condition, Conditions.holds, Tree.Place, Tree.Step, Tree.runs, Tree.follows, Tree.Tree, Tree.act, Tree.skip, Tree.seq, Tree.par, Tree.sel, Tree.loop, Tree.Trees, Tree.no_trees, Tree.tree, Tree.Choices, Tree.otherwise, Tree.choice}
 use Rattle.batch_model.{specs.Events.phase_after, specs.Lists.Has, specs.Moves.Move, specs.Moves.begin, specs.Moves.start, specs.Moves.send, specs.Moves.state, specs.Moves.release, specs.Moves.pass, specs.Moves.end, specs.Moves.ask, specs.Moves.grant, specs.Moves.place_of_move, specs.Moves.freed, specs.Moves.sent, specs.Moves.released, specs.Moves.begun, specs.Moves.ended, specs.Moves.asked, specs.Moves.granted, specs.Moves.act_after, specs.Rest.Rest, specs.Rest.Moment, specs.Rest.ready, specs.Rest.asking, specs.Rest.open_act, specs.Rest.live, specs.Rest.freeing, specs.Rest.in_seq, specs.Rest.in_par, specs.Rest.in_loop, specs.Rest.done, specs.Rest.Rests, specs.Rest.no_rests, specs.Rest.rest, specs.Rest.same_place, specs.Rest.is_done, specs.Rest.all_done, specs.Rest.turning, specs.Rest.turned, specs.Rest.reach, specs.Rest.reach_first, specs.Rest.reach_each, specs.Rest.reach_chosen, specs.Rest.advance, specs.Rest.advance_each, specs.Rest.acts, specs.Rest.acts_of_each, specs.Rest.place_of, specs.Rest.changed_at, specs.Rest.changed_in_each, proofs.Members.Has-split, proofs.Members.Has-left, proofs.Members.Has-right}
 use Rattle.batch_step_laws.proofs.WorkAfterChange.{to_same_place}
 use Rattle.batch_record_laws.proofs.HoldingsInAdvance.{either-acts}
@@ -53,7 +53,7 @@ module _ (q : Place) where
   open-unbegun s r x h k a (inl e) at = absurd (h (open_act s r) (inl refl) (ap place_of e ∙ at))
   open-unbegun s r x h k a (inr i) at = k a i at
 
-  turned-unbegun : (m : Moment) (n : ℕ) (c : Cond) (body : Tree) (r : Rest) → Unbegun r → Unbegun (turned m n c body r)
+  turned-unbegun : (m : Moment) (n : ℕ) (c : Condition) (body : Tree) (r : Rest) → Unbegun r → Unbegun (turned m n c body r)
   turned-unbegun m zero c body r h a i at = either-acts a (IsEntering a) (is_done r) done (in_loop 0 c body r) (λ j. absurd j) (λ j. h a j at) i
   turned-unbegun m (suc n) c body r h a i at = go (is_done r) i
     where
@@ -194,7 +194,7 @@ module _ (q : Place) where
   now-unbegun now (in_loop n d body r) h a i at = h a i at
   now-unbegun now done h a i at = h a i at
 
-  pub phase_after-unbegun : (e : PhaseEnd) (a : Rest) → Unbegun a → Unbegun (phase_after e a)
+  pub phase_after-unbegun : (e : ReportOutcome) (a : Rest) → Unbegun a → Unbegun (phase_after e a)
   phase_after-unbegun Ended a h = ended-unbegun a h
   phase_after-unbegun (Now now) a h = now-unbegun now a h
   phase_after-unbegun Same a h = h

@@ -1,6 +1,6 @@
 -- A record is right about the units that are passed on or reserved, after every reply.
 use Rattle.std.proofs.Common.{arith, ◌≡◌, ⊎_elim, refl, sym, ◌∙◌, ap, ap₂, subst, subst₂, ℕ, ◌≤◌, List, [], ◌∷◌, ◌++◌, Bool, true, false, not, nat_eq, map, find, Option, Some, None, inl, inr, bytes_eq}
-use Rattle.batch_matrix.specs.{declared.command.Command.Command, declared.command.Command.TheVariants.Start, declared.command.Command.TheVariants.Pause, declared.command.Command.TheVariants.Resume, declared.command.Command.TheVariants.Hold, declared.command.Command.TheVariants.Restart, declared.command.Command.TheVariants.Stop, declared.command.Command.TheVariants.Abort, declared.command.Command.TheVariants.Reset, declared.report.PhaseEnd.PhaseEnd, declared.report.Report.Report, declared.state.State.State, declared.state.State.TheVariants.Idle, declared.state.State.TheVariants.Holding, Matrix.same_state, Matrix.accepts, Matrix.target, Matrix.after_report}
+use Rattle.batch_matrix.specs.{declared.command.Command.Command, declared.command.Command.TheVariants.Start, declared.command.Command.TheVariants.Pause, declared.command.Command.TheVariants.Resume, declared.command.Command.TheVariants.Hold, declared.command.Command.TheVariants.Restart, declared.command.Command.TheVariants.Stop, declared.command.Command.TheVariants.Abort, declared.command.Command.TheVariants.Reset, declared.report.ReportOutcome.ReportOutcome, declared.report.Report.Report, declared.state.State.State, declared.state.State.TheVariants.Idle, declared.state.State.TheVariants.Holding, Matrix.same_state, Matrix.accepts, Matrix.target, Matrix.after_report}
 use Rattle.batch_matrix.specs.declared.command.Command.TheVariants as commands
 use Rattle.batch_recipe.specs.{Conditions.Name, Conditions.ValueList, Tree.Place, Tree.Tree, Values.with_values, Values.are_outputs, Values.left_out}
 use Rattle.batch_model.{specs.Cleared.Ranking, specs.Events.Event, specs.Events.create, specs.Events.order, specs.Events.remove, specs.Events.report, specs.Events.Refusal, specs.Events.Reply, specs.Events.created, specs.Events.ordered, specs.Events.removed, specs.Events.reported, specs.Events.refused, specs.Events.unknown_recipe, specs.Events.unknown_batch, specs.Events.command_not_accepted, specs.Events.no_live_phase, specs.Events.report_not_expected, specs.Events.bad_output, specs.Events.output_left_out, specs.Events.bad_binding, specs.Events.bad_size, specs.Events.bad_value, specs.Events.full, specs.Events.not_idle, specs.Events.moves_pending, specs.Events.no_memory, specs.Events.Answer, specs.Events.is_full, specs.Events.new_batch, specs.Events.with_batch, specs.Events.creating, specs.Events.creating_for, specs.Events.binding, specs.Events.is_binding, specs.Events.bound_by, specs.Events.roles_told, specs.Events.reset, specs.Events.commanded, specs.Events.lines_under, specs.Events.ordering, specs.Events.without_batch, specs.Events.removing, specs.Events.LivePhase, specs.Events.live_phase, specs.Events.phase_after, specs.Events.batch_state_after, specs.Events.outputs_of, specs.Events.batch_reported, specs.Events.owed, specs.Events.accepting, specs.Events.reporting, specs.Events.judged, specs.Events.react, specs.Lists.Has, specs.Lists.Each, specs.Moves.Move, specs.Moves.next, specs.Plant.Formula, specs.Plant.size_out_of_range, specs.Plant.value_out_of_range, specs.Plant.scaled, specs.Plant.Recipe, specs.Plant.Master, specs.Plant.Setup, specs.Plant.Batch, specs.Plant.Share, specs.Plant.Plant, specs.Plant.batch_at, specs.Plant.moment_of, specs.Plant.in_batch, specs.Rest.Rest, specs.Rest.changed_at, specs.Records.holders_told, specs.Runs.Out, specs.Runs.reply, specs.Runs.Reacts, specs.Runs.goes_on, specs.Standing.IsStanding, specs.Transfers.Kept, specs.Transfers.kept_until, specs.Transfers.passed_told, specs.Transfers.reserved_told, proofs.Members.Has-split, proofs.Members.Each-Has}
@@ -202,7 +202,7 @@ module _ (d : Setup) (rank : Ranking) (outs : List Out) (s : Plant) (sd : IsStan
 
   -- Reports
 
-  reported-keeps : (unit name : Name) (word : Report) (outputs : ValueList) (n : ℕ) (p : Place) (e : PhaseEnd) (x : State)
+  reported-keeps : (unit name : Name) (word : Report) (outputs : ValueList) (n : ℕ) (p : Place) (e : ReportOutcome) (x : State)
       → AnsweredBy outs (reported unit name word n p x, in_batch n (batch_reported word outputs p e) s)
   reported-keeps unit name word outputs n p e x =
       let r : Reply = reported unit name word n p x in
@@ -223,16 +223,16 @@ module _ (d : Setup) (rank : Ranking) (outs : List Out) (s : Plant) (sd : IsStan
   reporting-keeps : (unit name : Name) (word : Report) (outputs : ValueList) (l : LivePhase) → AnsweredBy outs (reporting s unit name word outputs l)
   reporting-keeps unit name word outputs l = go (after_report l.state word)
     where
-      accepted : (e : PhaseEnd) (o : Option Name) → AnsweredBy outs (accepting s unit name word outputs l e o)
+      accepted : (e : ReportOutcome) (o : Option Name) → AnsweredBy outs (accepting s unit name word outputs l e o)
       accepted e (Some output) = refused-keeps (output_left_out output)
       accepted e None = reported-keeps unit name word outputs l.batch.number l.place e (batch_state_after word l.batch.state)
 
-      outs_of : (e : PhaseEnd) (t : Bool)
+      outs_of : (e : ReportOutcome) (t : Bool)
           → AnsweredBy outs (elim t [ false ↦ (refused bad_output, s) | true ↦ accepting s unit name word outputs l e (left_out (owed l.state word l.phase.reports) outputs) ])
       outs_of e false = refused-keeps bad_output
       outs_of e true = accepted e (left_out (owed l.state word l.phase.reports) outputs)
 
-      go : (o : Option PhaseEnd)
+      go : (o : Option ReportOutcome)
           → AnsweredBy outs
           (elim o [
             | None ↦ (refused (report_not_expected l.state), s)

@@ -2,7 +2,7 @@
 use Rattle.std.proofs.Common.{◌≡◌, ◌≢◌, ◌<◌, ◌≤◌, ◌+◌, ◌⊎◌, ℕ, Bool, true, false, ◌||◌, length, length-append, refl, get_or, set, cond, eqb, List, [], ◌∷◌, ◌++◌, append-nil, append_assoc, sym, ◌∙◌, ap, subst, arith, inl, inr, get_or-set_other, get_or-set_same, Some, None, option_to_list, if◌then◌else◌}
 use Rattle.std.proofs.lemmas.{Bool.cases_lt, Bool.eq-eqb, Bool.false≢true, Bool.ne_eqb, Grind.flat_map-append, List.get_or_default, List.Elements.All-push}
 use Rattle.rtrb.specs.Ring.{SameConsumer, received, sent}
-use Rattle.batch_serve.specs.{Rounds.IsCutIfLate, Rounds.IsGathered, Rounds.IsTextOfMessages, Rounds.LinesGoOn, Rounds.is_end, Rounds.text_of_one, Rounds.text_sent, Runs.AreOfDesks, Runs.Run, Runs.own_text, Turns.IsSameBut, Turns.with_run, Waits.IsLate, Waits.Waits, Waits.cut_off, declared.desk.Desk.Desk, declared.desk_server.DeskServer.DeskServer, declared.rounds.Reader.Reader, declared.rounds.Sent.Sent, declared.rounds.Sent.TheVariants.End, declared.rounds.Sent.TheVariants.Lines, declared.rounds.Writer.Writer}
+use Rattle.batch_serve.specs.{Rounds.IsCutIfLate, Rounds.IsGathered, Rounds.IsTextOfMessages, Rounds.LinesGoOn, Rounds.is_end, Rounds.text_of_one, Rounds.text_sent, Runs.AreOfDesks, Runs.Run, Runs.own_text, Turns.IsSameBut, Turns.with_run, Waits.IsLate, Waits.Waits, Waits.cut_off, declared.desk.ServedDesk.ServedDesk, declared.desk_server.DeskServer.DeskServer, declared.rounds.Reader.Reader, declared.rounds.ReaderMessage.ReaderMessage, declared.rounds.ReaderMessage.TheVariants.End, declared.rounds.ReaderMessage.TheVariants.Lines, declared.rounds.Writer.Writer}
 
 -- a run of one desk is none of another's
 pub own_other : (desk other : ℕ) (group : List Run) (text : List ℕ) → (other ≡ desk → ⊥) → own_text other (group ++ record { desk = desk; text = text } ∷ []) ≡ own_text other group
@@ -22,7 +22,7 @@ or_false true = refl
 or_false false = refl
 
 -- lines came, and they are the desk's, unless it is cut
-pub lines_gathered : {O : Type 0} (allows : List Sent → Sent → Type 0) (desk : ℕ) (is_cut : Bool) (before after : Reader O) (old new : List Run) (text : List ℕ)
+pub lines_gathered : {O : Type 0} (allows : List ReaderMessage → ReaderMessage → Type 0) (desk : ℕ) (is_cut : Bool) (before after : Reader O) (old new : List Run) (text : List ℕ)
     → SameConsumer before.ring after.ring → received after.ring ≡ received before.ring ++ Lines text ∷ [] → allows (received before.ring) (Lines text) → after.has_ended ≡ before.has_ended
     → (is_cut ≡ false → new ≡ with_run old desk text) → (is_cut ≡ true → new ≡ old) → IsGathered allows desk is_cut before after old new
 lines_gathered allows desk is_cut before after old new text ring came allowed ended taken cut = record {
@@ -46,7 +46,7 @@ lines_gathered allows desk is_cut before after old new text ring came allowed en
     own true taken cut = ap (own_text desk) (cut refl) ∙ sym (append-nil (own_text desk old))
 
 -- a message without a line came
-pub no_line_gathered : {O : Type 0} (allows : List Sent → Sent → Type 0) (desk : ℕ) (is_cut : Bool) (before after : Reader O) (group : List Run) (message : Sent)
+pub no_line_gathered : {O : Type 0} (allows : List ReaderMessage → ReaderMessage → Type 0) (desk : ℕ) (is_cut : Bool) (before after : Reader O) (group : List Run) (message : ReaderMessage)
     → SameConsumer before.ring after.ring → received after.ring ≡ received before.ring ++ message ∷ [] → allows (received before.ring) message → text_of_one message ≡ []
     → after.has_ended ≡ (before.has_ended || is_end message) → IsGathered allows desk is_cut before after group group
 no_line_gathered allows desk is_cut before after group message ring came allowed none ended = record {
@@ -62,7 +62,7 @@ no_line_gathered allows desk is_cut before after group message ring came allowed
     own true = sym (append-nil (own_text desk group))
     own false = sym (ap (λ t. own_text desk group ++ (t ++ [])) none ∙ append-nil (own_text desk group))
 
-pub end_gathered : {O : Type 0} (allows : List Sent → Sent → Type 0) (desk : ℕ) (is_cut : Bool) (before after : Reader O) (group : List Run) → SameConsumer before.ring after.ring
+pub end_gathered : {O : Type 0} (allows : List ReaderMessage → ReaderMessage → Type 0) (desk : ℕ) (is_cut : Bool) (before after : Reader O) (group : List Run) → SameConsumer before.ring after.ring
     → received after.ring ≡ received before.ring ++ End ∷ [] → allows (received before.ring) End → after.has_ended ≡ true → IsGathered allows desk is_cut before after group group
 end_gathered allows desk is_cut before after group ring came allowed ended =
     no_line_gathered allows desk is_cut before after group End ring came allowed refl (ended ∙ sym (or_true before.has_ended))
@@ -72,7 +72,7 @@ end_gathered allows desk is_cut before after group ring came allowed ended =
     or_true false = refl
 
 -- none came
-pub nothing_gathered : {O : Type 0} (allows : List Sent → Sent → Type 0) (desk : ℕ) (is_cut : Bool) (before after : Reader O) (group : List Run) → SameConsumer before.ring after.ring
+pub nothing_gathered : {O : Type 0} (allows : List ReaderMessage → ReaderMessage → Type 0) (desk : ℕ) (is_cut : Bool) (before after : Reader O) (group : List Run) → SameConsumer before.ring after.ring
     → received after.ring ≡ received before.ring → after.has_ended ≡ before.has_ended → IsGathered allows desk is_cut before after group group
 nothing_gathered allows desk is_cut before after group ring came ended = record {
   ring = ring;
@@ -100,13 +100,13 @@ kept_behind first now i new rest k other above =
     get_or-set_other now i k new other apart ∙ rest k other (omega arith)
 
 -- the lines of one more desk were taken
-pub gathered_more : {O : Type 0} (allows : List Sent → Sent → Type 0) (desks : List Desk) (first now : List (Reader O)) (i : ℕ) (old new : Reader O) (start before after : List Run)
-    → i < length now → old ≡ get_or now i old → ((other : Desk) → IsGathered allows i (get_or desks i other).waiting.is_cut old new before after)
+pub gathered_more : {O : Type 0} (allows : List ReaderMessage → ReaderMessage → Type 0) (desks : List ServedDesk) (first now : List (Reader O)) (i : ℕ) (old new : Reader O) (start before after : List Run)
+    → i < length now → old ≡ get_or now i old → ((other : ServedDesk) → IsGathered allows i (get_or desks i other).waiting.is_cut old new before after)
     → ((k : ℕ) → (k ≡ i → ⊥) → own_text k after ≡ own_text k before)
-    → ((k : ℕ) (reader : Reader O) (other : Desk) → k < i → IsGathered allows k (get_or desks k other).waiting.is_cut (get_or first k reader) (get_or now k reader) start before)
+    → ((k : ℕ) (reader : Reader O) (other : ServedDesk) → k < i → IsGathered allows k (get_or desks k other).waiting.is_cut (get_or first k reader) (get_or now k reader) start before)
     → ((k : ℕ) (reader : Reader O) → i ≤ k → get_or now k reader ≡ get_or first k reader)
     → ((k : ℕ) → i ≤ k → own_text k before ≡ own_text k start)
-    → (k : ℕ) (reader : Reader O) (other : Desk) → k < i + 1
+    → (k : ℕ) (reader : Reader O) (other : ServedDesk) → k < i + 1
     → IsGathered allows k (get_or desks k other).waiting.is_cut (get_or first k reader) (get_or (set now i new) k reader) start after
 gathered_more {O} allows desks first now i old new start before after within is came others so_far rest own k reader other below = go (cases_lt k i)
   where
@@ -151,24 +151,24 @@ own_behind i start before after others own k above =
     others k apart ∙ own k (omega arith)
 
 -- a relation of each desk and its writer holds of one more
-pub each_more : (R : Desk → Desk → Writer → Writer → Type 0) (desks now_desks : List Desk) (writers now_writers : List Writer) (i : ℕ) (old new : Desk) (before after : Writer)
+pub each_more : (R : ServedDesk → ServedDesk → Writer → Writer → Type 0) (desks now_desks : List ServedDesk) (writers now_writers : List Writer) (i : ℕ) (old new : ServedDesk) (before after : Writer)
     → i < length now_desks → i < length now_writers → old ≡ get_or now_desks i old → before ≡ get_or now_writers i before → R old new before after
-    → ((k : ℕ) (other : Desk) (writer : Writer) → k < i → R (get_or desks k other) (get_or now_desks k other) (get_or writers k writer) (get_or now_writers k writer))
-    → ((k : ℕ) (other : Desk) → i ≤ k → get_or now_desks k other ≡ get_or desks k other)
+    → ((k : ℕ) (other : ServedDesk) (writer : Writer) → k < i → R (get_or desks k other) (get_or now_desks k other) (get_or writers k writer) (get_or now_writers k writer))
+    → ((k : ℕ) (other : ServedDesk) → i ≤ k → get_or now_desks k other ≡ get_or desks k other)
     → ((k : ℕ) (writer : Writer) → i ≤ k → get_or now_writers k writer ≡ get_or writers k writer)
-    → (k : ℕ) (other : Desk) (writer : Writer) → k < i + 1
+    → (k : ℕ) (other : ServedDesk) (writer : Writer) → k < i + 1
     → R (get_or desks k other) (get_or (set now_desks i new) k other) (get_or writers k writer) (get_or (set now_writers i after) k writer)
 each_more R desks now_desks writers now_writers i old new before after in_desks in_writers is_old is_before here so_far rest_desks rest_writers k other writer below = go (cases_lt k i)
   where
-    all : (a b : Desk) (x y : Writer) → a ≡ old → b ≡ new → x ≡ before → y ≡ after → R a b x y
+    all : (a b : ServedDesk) (x y : Writer) → a ≡ old → b ≡ new → x ≡ before → y ≡ after → R a b x y
     all a b x y p q r s =
-        subst (λ (d : Desk). R d b x y) (sym p) (subst (λ (d : Desk). R old d x y) (sym q)
+        subst (λ (d : ServedDesk). R d b x y) (sym p) (subst (λ (d : ServedDesk). R old d x y) (sym q)
         (subst (λ (w : Writer). R old new w y) (sym r) (subst (λ (w : Writer). R old new before w) (sym s) here)))
 
     go : (k < i) ⊎ (i ≤ k) → R (get_or desks k other) (get_or (set now_desks i new) k other) (get_or writers k writer) (get_or (set now_writers i after) k writer)
     go (inl lt) =
         let apart : k ≢ i = omega arith in
-        subst (λ (d : Desk). R (get_or desks k other) d (get_or writers k writer) (get_or (set now_writers i after) k writer)) (sym (get_or-set_other now_desks i k new other apart))
+        subst (λ (d : ServedDesk). R (get_or desks k other) d (get_or writers k writer) (get_or (set now_writers i after) k writer)) (sym (get_or-set_other now_desks i k new other apart))
         (subst (λ (w : Writer). R (get_or desks k other) (get_or now_desks k other) (get_or writers k writer) w) (sym (get_or-set_other now_writers i k after writer apart)) (so_far k other writer lt))
     go (inr le) =
         let at : k ≡ i = omega arith in
@@ -179,7 +179,7 @@ each_more R desks now_desks writers now_writers i old new before after in_desks 
         (ap (λ n. get_or (set now_writers i after) n writer) at ∙ get_or-set_same now_writers i after writer in_writers)
 
 -- some of the queued lines went into the ring, and the desk was cut if too many were left
-pub cut_where_late : (old new : Desk) (before after : Writer) (left : Waits (List ℕ)) (cuts : Bool) → sent after.ring ++ left.lines ≡ sent before.ring ++ old.waiting.lines
+pub cut_where_late : (old new : ServedDesk) (before after : Writer) (left : Waits (List ℕ)) (cuts : Bool) → sent after.ring ++ left.lines ≡ sent before.ring ++ old.waiting.lines
     → left.lag ≡ old.waiting.lag → left.is_cut ≡ old.waiting.is_cut → (cuts ≡ true → IsLate left) → (cuts ≡ true → new.waiting ≡ cut_off left) → (cuts ≡ false → new.waiting ≡ left)
     → length new.waiting.lines ≤ new.waiting.lag → IsCutIfLate old new before after
 cut_where_late old new before after left true order lag same late cut stays few = record {
@@ -202,10 +202,10 @@ same_on a b d one other = record {
 }
 
 -- a message more is taken, or dropped if the desk is cut
-pub lines_go_on : {O : Type 0} (allows : List Sent → Sent → Type 0) → LinesGoOn O allows
+pub lines_go_on : {O : Type 0} (allows : List ReaderMessage → ReaderMessage → Type 0) → LinesGoOn O allows
 lines_go_on {O} allows desk is_cut runs group after old new so_far g = go is_cut so_far.all g.own
   where
-    more : List Sent
+    more : List ReaderMessage
     more = option_to_list g.message
 
     own : List Run → List ℕ

@@ -2,22 +2,22 @@
 use Rattle.std.proofs.Common.{◌≡◌, ℕ, Bool, true, false, List, [], ◌∷◌, ◌++◌, Option, Some, None, Result, Ok, Err, inl, refl, sym, ap, subst, append_assoc, append-nil, ◌||◌, ◌∙◌}
 use Rattle.std.{proofs.KnownBytes.Appends-nil, proofs.KnownBytes.Appends-kept, proofs.KnownBytes.Appends-trans, proofs.KnownBytes.Consumes-kept, proofs.KnownBytes.Consumes-nil, proofs.KnownBytes.Consumes-trans, proofs.KnownBytes.Keeps-refl, proofs.lemmas.Bool.false≢true, proofs.lemmas.Grind.flat_map-append, proofs.lemmas.List.Folds.list_any-append, specs.Io.KnownBytes.Appends, specs.Io.KnownBytes.Consumes, specs.Io.KnownBytes.IsAtEnd, specs.Io.KnownBytes.Keeps, specs.List.list_any}
 use Rattle.batch_wire.specs.Written.{AppendsBeginning, Writes}
-use Rattle.batch_serve.specs.{Replays.IsWholeLines, Rounds.AreMessagesOf, Rounds.HaveWholeLines, Rounds.is_end, Rounds.text_of_one, Rounds.text_sent, Threads.IsInputRead, Threads.AreLinesWritten, Threads.MayHandOver, Threads.ReadsOn, Threads.WritesOn, Threads.lines_text, declared.rounds.Sent.Sent, declared.rounds.Sent.TheVariants.Path, declared.rounds.Sent.TheVariants.Lines, declared.rounds.Sent.TheVariants.End}
+use Rattle.batch_serve.specs.{Replays.IsWholeLines, Rounds.AreMessagesOf, Rounds.HaveWholeLines, Rounds.is_end, Rounds.text_of_one, Rounds.text_sent, Threads.IsInputRead, Threads.AreLinesWritten, Threads.MayHandOver, Threads.ReadsOn, Threads.WritesOn, Threads.lines_text, declared.rounds.ReaderMessage.ReaderMessage, declared.rounds.ReaderMessage.TheVariants.Path, declared.rounds.ReaderMessage.TheVariants.Lines, declared.rounds.ReaderMessage.TheVariants.End}
 
 -- Readers
 
-whole_both : (xs ys : List Sent) → HaveWholeLines xs → HaveWholeLines ys → HaveWholeLines (xs ++ ys)
+whole_both : (xs ys : List ReaderMessage) → HaveWholeLines xs → HaveWholeLines ys → HaveWholeLines (xs ++ ys)
 whole_both [] ys one other = other
 whole_both (x ∷ xs) ys one other = (one.0, whole_both xs ys one.1 other)
 
-pub lines_read : (old new : Option (List ℕ)) (before after : List Sent) (text : List ℕ) → Consumes old new text → IsWholeLines text → after ≡ before ++ Lines text ∷ []
+pub lines_read : (old new : Option (List ℕ)) (before after : List ReaderMessage) (text : List ℕ) → Consumes old new text → IsWholeLines text → after ≡ before ++ Lines text ∷ []
     → ReadsOn old new before after
 lines_read old new before after text read whole went = record { items = Lines text ∷ []; whole = (whole, tt); went = went; read = subst (Consumes old new) (sym (append-nil text)) read }
 
-pub nothing_read : (old new : Option (List ℕ)) (before after : List Sent) → Keeps old new → after ≡ before → ReadsOn old new before after
+pub nothing_read : (old new : Option (List ℕ)) (before after : List ReaderMessage) → Keeps old new → after ≡ before → ReadsOn old new before after
 nothing_read old new before after kept same = record { items = []; whole = tt; went = same ∙ sym (append-nil before); read = Consumes-kept old old new [] (Consumes-nil old) kept }
 
-pub lines_lost : (old new : Option (List ℕ)) (before after : List Sent) (text : List ℕ) → Consumes old new text → after ≡ before → IsInputRead false old new before after
+pub lines_lost : (old new : Option (List ℕ)) (before after : List ReaderMessage) (text : List ℕ) → Consumes old new text → after ≡ before → IsInputRead false old new before after
 lines_lost old new before after text read same = record {
   items = [];
   whole = tt;
@@ -29,13 +29,13 @@ lines_lost old new before after text read same = record {
   told = λ t. absurd (false≢true t);
 }
 
-pub end_read : (told : Bool) (old new : Option (List ℕ)) (before after : List Sent) → Consumes old new [] → IsAtEnd new
+pub end_read : (told : Bool) (old new : Option (List ℕ)) (before after : List ReaderMessage) → Consumes old new [] → IsAtEnd new
     → (told ≡ true → after ≡ before ++ End ∷ []) → (told ≡ false → after ≡ before) → IsInputRead told old new before after
 end_read true old new before after read end went stays =
     record { items = End ∷ []; whole = (inl refl, tt); rest = []; went = went refl; read = read; all = λ t. refl; end = λ t. end; told = λ t. refl }
 end_read false old new before after read end went stays = lines_lost old new before after [] read (stays refl)
 
-pub reads_twice : (a b d : Option (List ℕ)) (x y z : List Sent) → ReadsOn a b x y → ReadsOn b d y z → ReadsOn a d x z
+pub reads_twice : (a b d : Option (List ℕ)) (x y z : List ReaderMessage) → ReadsOn a b x y → ReadsOn b d y z → ReadsOn a d x z
 reads_twice a b d x y z one other = record {
   items = one.items ++ other.items;
   whole = whole_both one.items other.items one.whole other.whole;
@@ -44,13 +44,13 @@ reads_twice a b d x y z one other = record {
 }
 
 -- the end is among all items, if it is among the last
-any_behind : (front items : List Sent) → list_any is_end items ≡ true → list_any is_end (front ++ items) ≡ true
+any_behind : (front items : List ReaderMessage) → list_any is_end items ≡ true → list_any is_end (front ++ items) ≡ true
 any_behind [] items is = is
 any_behind (Path path ∷ front) items is = any_behind front items is
 any_behind (Lines text ∷ front) items is = any_behind front items is
 any_behind (End ∷ front) items is = refl
 
-pub reads_then : (ended : Bool) (a b d : Option (List ℕ)) (x y z : List Sent) → ReadsOn a b x y → IsInputRead ended b d y z → IsInputRead ended a d x z
+pub reads_then : (ended : Bool) (a b d : Option (List ℕ)) (x y z : List ReaderMessage) → ReadsOn a b x y → IsInputRead ended b d y z → IsInputRead ended a d x z
 reads_then ended a b d x y z one other = record {
   items = one.items ++ other.items;
   whole = whole_both one.items other.items one.whole other.whole;
@@ -64,7 +64,7 @@ reads_then ended a b d x y z one other = record {
   told = λ t. any_behind one.items other.items (other.told t);
 }
 
-pub reads_stop : (old new : Option (List ℕ)) (before after : List Sent) → ReadsOn old new before after → IsInputRead false old new before after
+pub reads_stop : (old new : Option (List ℕ)) (before after : List ReaderMessage) → ReadsOn old new before after → IsInputRead false old new before after
 reads_stop old new before after one = record {
   items = one.items;
   whole = one.whole;
@@ -79,7 +79,7 @@ reads_stop old new before after one = record {
 -- Messages that a protocol allows
 
 -- the messages of the rest of an input, behind those of its front, none of which was the end
-messages_behind : (front messages : List Sent) (a b : Option (List ℕ)) → HaveWholeLines front → list_any is_end front ≡ false → Consumes a b (text_sent front) → AreMessagesOf b messages
+messages_behind : (front messages : List ReaderMessage) (a b : Option (List ℕ)) → HaveWholeLines front → list_any is_end front ≡ false → Consumes a b (text_sent front) → AreMessagesOf b messages
     → AreMessagesOf a (front ++ messages)
 messages_behind front messages a b whole no_end read rest = record { whole = whole_both front messages whole rest.whole; begun = begun a b read rest }
   where
@@ -97,33 +97,33 @@ messages_behind front messages a b whole no_end read rest = record { whole = who
         )
 
 -- those of the front were handed over
-may_go_on : (allows : List Sent → Sent → Type 0) (before after front : List Sent) (a b : Option (List ℕ)) → MayHandOver allows before a → HaveWholeLines front → list_any is_end front ≡ false
+may_go_on : (allows : List ReaderMessage → ReaderMessage → Type 0) (before after front : List ReaderMessage) (a b : Option (List ℕ)) → MayHandOver allows before a → HaveWholeLines front → list_any is_end front ≡ false
     → Consumes a b (text_sent front) → after ≡ before ++ front → MayHandOver allows after b
 may_go_on allows before after front a b may whole no_end read went messages next of =
     subst (λ l. allows l next) (sym (append_assoc before front messages) ∙ ap (λ l. l ++ messages) (sym went))
     (may (front ++ messages) next
     (subst (AreMessagesOf a) (sym (append_assoc front messages (next ∷ []))) (messages_behind front (messages ++ next ∷ []) a b whole no_end read of)))
 
-pub may_after_lines : (allows : List Sent → Sent → Type 0) (before after : List Sent) (a b : Option (List ℕ)) (text : List ℕ) → MayHandOver allows before a → IsWholeLines text
+pub may_after_lines : (allows : List ReaderMessage → ReaderMessage → Type 0) (before after : List ReaderMessage) (a b : Option (List ℕ)) (text : List ℕ) → MayHandOver allows before a → IsWholeLines text
     → Consumes a b text → after ≡ before ++ Lines text ∷ [] → MayHandOver allows after b
 may_after_lines allows before after a b text may whole read went =
     may_go_on allows before after (Lines text ∷ []) a b may (whole, tt) refl (subst (Consumes a b) (sym (append-nil text)) read) went
 
-pub may_after_nothing : (allows : List Sent → Sent → Type 0) (before after : List Sent) (a b : Option (List ℕ)) → MayHandOver allows before a → Keeps a b → after ≡ before
+pub may_after_nothing : (allows : List ReaderMessage → ReaderMessage → Type 0) (before after : List ReaderMessage) (a b : Option (List ℕ)) → MayHandOver allows before a → Keeps a b → after ≡ before
     → MayHandOver allows after b
 may_after_nothing allows before after a b may kept same =
     may_go_on allows before after [] a b may tt refl (Consumes-kept a a b [] (Consumes-nil a) kept) (same ∙ sym (append-nil before))
 
-may_now : (allows : List Sent → Sent → Type 0) (before : List Sent) (message : Sent) (a : Option (List ℕ)) → MayHandOver allows before a → AreMessagesOf a (message ∷ []) → allows before message
+may_now : (allows : List ReaderMessage → ReaderMessage → Type 0) (before : List ReaderMessage) (message : ReaderMessage) (a : Option (List ℕ)) → MayHandOver allows before a → AreMessagesOf a (message ∷ []) → allows before message
 may_now allows before message a may of = subst (λ l. allows l message) (append-nil before) (may [] message of)
 
-pub may_lines : (allows : List Sent → Sent → Type 0) (before : List Sent) (a b : Option (List ℕ)) (text : List ℕ) → MayHandOver allows before a → IsWholeLines text → Consumes a b text
+pub may_lines : (allows : List ReaderMessage → ReaderMessage → Type 0) (before : List ReaderMessage) (a b : Option (List ℕ)) (text : List ℕ) → MayHandOver allows before a → IsWholeLines text → Consumes a b text
     → allows before (Lines text)
 may_lines allows before a b text may whole read =
     may_now allows before (Lines text) a may (messages_behind (Lines text ∷ []) [] a b (whole, tt) refl (subst (Consumes a b) (sym (append-nil text)) read)
     (record { whole = tt; begun = λ more known. (more, refl, λ t. absurd (false≢true t)) }))
 
-pub may_end : (allows : List Sent → Sent → Type 0) (before : List Sent) (a b : Option (List ℕ)) → MayHandOver allows before a → Consumes a b [] → IsAtEnd b → allows before End
+pub may_end : (allows : List ReaderMessage → ReaderMessage → Type 0) (before : List ReaderMessage) (a b : Option (List ℕ)) → MayHandOver allows before a → Consumes a b [] → IsAtEnd b → allows before End
 may_end allows before a b may read end = may_now allows before End a may (record { whole = (inl refl, tt); begun = begun a b read end })
   where
     begun : (x y : Option (List ℕ)) → Consumes x y [] → IsAtEnd y → (text : List ℕ) → x ≡ Some text → (more : List ℕ) × (text ≡ more) × (true ≡ true → more ≡ [])
@@ -191,7 +191,7 @@ writes_stop before after old new one = record { lines = one.lines; came = one.ca
 
 -- Nothing yet
 
-pub reads_begin : (a : Option (List ℕ)) (x : List Sent) → ReadsOn a a x x
+pub reads_begin : (a : Option (List ℕ)) (x : List ReaderMessage) → ReadsOn a a x x
 reads_begin a x = nothing_read a a x x (Keeps-refl a) refl
 
 pub writes_begin : (x : List (List ℕ)) (a : Option (List ℕ)) → WritesOn x x a a

@@ -5,7 +5,7 @@ use Rattle.batch_model.specs.Plant.{Setup, Plant}
 use Rattle.batch_verify.specs.ClearedSet.{ClearedSet}
 use Rattle.batch_engine.specs.View.{EngineView, setup, plant_of}
 use Rattle.batch_journal.specs.Readers.{IsWhole}
-use Rattle.batch_serve.{specs.Replays.ShowsNoWant, specs.Lives.Beginning, specs.Lives.IsLife, specs.Lives.LivesBegin, specs.Lives.LivesGoOn, specs.Lives.LivesHandOn, specs.Lives.LivesTake, specs.Lives.Outside, specs.Runs.Run, specs.Runs.due_of, specs.Runs.last_of, specs.Runs.runs_text, specs.Served.AreServed, specs.Served.AreWhole, specs.Served.ShowNoWant, specs.Told.IsDeskTold, specs.Turns.IsTurned, specs.Waits.IsAccount, specs.declared.desk.Desk.Desk, specs.declared.desk_server.DeskServer.DeskServer, proofs.RunTexts.texts_go_on, proofs.ServedRuns.goes_on}
+use Rattle.batch_serve.{specs.Replays.ShowsNoWant, specs.Lives.Beginning, specs.Lives.IsLife, specs.Lives.LivesBegin, specs.Lives.LivesGoOn, specs.Lives.LivesHandOn, specs.Lives.LivesTake, specs.Lives.Outside, specs.Runs.Run, specs.Runs.due_of, specs.Runs.last_of, specs.Runs.runs_text, specs.Served.AreServed, specs.Served.AreWhole, specs.Served.ShowNoWant, specs.Told.IsDeskTold, specs.Turns.IsTurned, specs.Waits.IsAccount, specs.declared.desk.ServedDesk.ServedDesk, specs.declared.desk_server.DeskServer.DeskServer, proofs.RunTexts.texts_go_on, proofs.ServedRuns.goes_on}
 use Rattle.rtrb.specs.Ring.{sent}
 
 -- answers are of the desks that sent the lines
@@ -72,7 +72,7 @@ life_turned is_safe before after begun kept_after recorded_after runs answers no
           (life.each desk other (omega (arith, within, turn.told.count))) (turn.told.each desk other (omega (arith, within, turn.told.count)));
     }
   where
-    told_on : (desk : ℕ) (one other : Desk) → IsAccount (due_of desk one.unit answers) (now.told desk) one.waiting → IsDeskTold desk turn.answers one other
+    told_on : (desk : ℕ) (one other : ServedDesk) → IsAccount (due_of desk one.unit answers) (now.told desk) one.waiting → IsDeskTold desk turn.answers one other
         → IsAccount (due_of desk other.unit (answers ++ turn.answers)) (now.told desk) other.waiting
     told_on desk one other account told =
         subst (λ (u : Option (List ℕ)). IsAccount (due_of desk u (answers ++ turn.answers)) (now.told desk) other.waiting) (sym told.unit)
@@ -105,7 +105,7 @@ lives_take is_safe keeper begun runs answers now old new life same = record {
   is_kept = λ s. life.is_kept s ∙ ap (λ (n : List (List ℕ)). begun.kept ++ runs_text n None runs) (sym same.names);
   is_recorded = subst (λ (n : List (List ℕ)). Appends begun.recorded now.recorded (runs_text n None answers)) (sym same.names) life.is_recorded;
   each = λ desk other within.
-      subst (λ (l : List Desk). IsAccount (due_of desk (get_or l desk other).unit answers) (now.told desk) (get_or l desk other).waiting) (sym same.desks)
+      subst (λ (l : List ServedDesk). IsAccount (due_of desk (get_or l desk other).unit answers) (now.told desk) (get_or l desk other).waiting) (sym same.desks)
       (life.each desk other (omega (arith, within, ap length same.desks)));
 }
 

@@ -2,10 +2,10 @@
 use Rattle.std.proofs.Common.{◌≡◌, ℕ, zero, suc, ◌+◌, ◌<◌, ◌^◌, min, Bool, true, false, not, ◌&&◌, List, [], ◌∷◌, ◌++◌, length, take, take-append-drop, drop, get_or, Option, Some, None, inl, inr, decimal, refl, sym, ◌∙◌, ap, subst, append_assoc, append-nil, eqb, arith}
 use Rattle.std.{proofs.lemmas.Bool.and_parts, proofs.lemmas.Bool.cases_lt, proofs.lemmas.Bool.eqb-true, proofs.lemmas.Bool.false_from_ne_true, proofs.lemmas.Fmt.digits_decimal, proofs.lemmas.List.drop_at, proofs.lemmas.List.take_all, proofs.lemmas.List.take_at, proofs.lemmas.List.take_more, proofs.lemmas.List.Elements.All-from_get_or, proofs.lemmas.Str.Parse.numerals_by_value, proofs.lemmas.Str.Parse.tells_all_ascii_digits, proofs.lemmas.List.Sums.list_all-from_AllPass, proofs.KnownBytes.Keeps-refl, specs.Io.KnownBytes.Appends, specs.Io.KnownBytes.Keeps, specs.List.list_all, specs.Prelude.if◌then◌else◌, specs.Prelude.option_map, specs.Char.is_ascii_digit, specs.Str.all_ascii_digits}
 use Rattle.memchr.specs.Find.{IsFirstByte, is_byte}
-use Rattle.batch_serve.{specs.Comments.is_hidden, specs.Comments.kept_from, specs.Comments.next_spot, specs.Comments.spot_behind, specs.Comments.without_comments, specs.Comments.IsRemarked, specs.Remarking.IsCommentPart, specs.Remarking.EndsAtSpot, specs.Remarking.is_plain, specs.Remarking.uncommented, specs.declared.remarked.Spot.Spot, specs.declared.remarked.Spot.TheVariants.Start, specs.declared.remarked.Spot.TheVariants.Line, specs.declared.remarked.Spot.TheVariants.Comment, proofs.Replays.is_other, proofs.Replays.none_first, proofs.HeldText.is_false}
+use Rattle.batch_serve.{specs.Comments.is_hidden, specs.Comments.kept_from, specs.Comments.next_spot, specs.Comments.spot_behind, specs.Comments.without_comments, specs.Comments.IsRemarked, specs.Remarking.IsCommentPart, specs.Remarking.EndsAtSpot, specs.Remarking.is_plain, specs.Remarking.uncommented, specs.declared.remarked.TextSpot.TextSpot, specs.declared.remarked.TextSpot.TheVariants.Start, specs.declared.remarked.TextSpot.TheVariants.Line, specs.declared.remarked.TextSpot.TheVariants.Comment, proofs.Replays.is_other, proofs.Replays.none_first, proofs.HeldText.is_false}
 use Rattle.batch_wire.specs.Written.{AppendsBeginning}
 
-pub same_spot : (first x : Option (List ℕ)) (spot other : Spot) (cut whole : Bool) → (cut ≡ whole) → (spot ≡ other) → EndsAtSpot first x spot cut → EndsAtSpot first x other whole
+pub same_spot : (first x : Option (List ℕ)) (spot other : TextSpot) (cut whole : Bool) → (cut ≡ whole) → (spot ≡ other) → EndsAtSpot first x spot cut → EndsAtSpot first x other whole
 same_spot first x spot other cut whole is same at = subst (λ t. EndsAtSpot first x other t) is (subst (λ s. EndsAtSpot first x s cut) same at)
 
 pub take_min : (n m : ℕ) (xs : List ℕ) → n ≡ min (length xs) m → take n xs ≡ take m xs
@@ -16,7 +16,7 @@ take_min n m xs is = elim (cases_lt m (length xs)) [
 
 -- One text behind another
 
-pub spot-append : (spot : Spot) (a b : List ℕ) → spot_behind spot (a ++ b) ≡ spot_behind (spot_behind spot a) b
+pub spot-append : (spot : TextSpot) (a b : List ℕ) → spot_behind spot (a ++ b) ≡ spot_behind (spot_behind spot a) b
 spot-append spot [] b = refl
 spot-append spot (x ∷ a) b = spot-append (next_spot spot x) a b
 
@@ -24,7 +24,7 @@ kept_cons : (hidden : Bool) (x : ℕ) (a b all : List ℕ) → all ≡ a ++ b �
 kept_cons true x a b all is = is
 kept_cons false x a b all is = ap (λ l. x ∷ l) is
 
-pub kept-append : (spot : Spot) (a b : List ℕ) → kept_from spot (a ++ b) ≡ kept_from spot a ++ kept_from (spot_behind spot a) b
+pub kept-append : (spot : TextSpot) (a b : List ℕ) → kept_from spot (a ++ b) ≡ kept_from spot a ++ kept_from (spot_behind spot a) b
 kept-append spot [] b = refl
 kept-append spot (x ∷ a) b =
     kept_cons (is_hidden spot x) x (kept_from (next_spot spot x) a) (kept_from (spot_behind (next_spot spot x) a) b) (kept_from (next_spot spot x) (a ++ b)) (kept-append (next_spot spot x) a b)
@@ -40,12 +40,12 @@ line_on : (feed : Bool) → (if feed then Start else Line) ≡ Comment → ⊥
 line_on true same = absurd (cc same)
 line_on false same = absurd (cc same)
 
-outside_on : (spot : Spot) (b : ℕ) → (spot ≡ Comment → ⊥) → is_plain b ≡ true → next_spot spot b ≡ Comment → ⊥
+outside_on : (spot : TextSpot) (b : ℕ) → (spot ≡ Comment → ⊥) → is_plain b ≡ true → next_spot spot b ≡ Comment → ⊥
 outside_on Start b outside plain = start_on (eqb b 10) (eqb b 35) (is_false (eqb b 35) plain)
 outside_on Line b outside plain = line_on (eqb b 10)
 outside_on Comment b outside plain = absurd (outside refl)
 
-shown : (spot : Spot) (b : ℕ) → (spot ≡ Comment → ⊥) → is_plain b ≡ true → is_hidden spot b ≡ false
+shown : (spot : TextSpot) (b : ℕ) → (spot ≡ Comment → ⊥) → is_plain b ≡ true → is_hidden spot b ≡ false
 shown Start b outside plain = is_false (eqb b 35) plain
 shown Line b outside plain = refl
 shown Comment b outside plain = absurd (outside refl)
@@ -54,7 +54,7 @@ shown_cons : (hidden : Bool) (b : ℕ) (all bytes : List ℕ) → hidden ≡ fal
 shown_cons true b all bytes is same = absurd (cc is)
 shown_cons false b all bytes is same = ap (λ l. b ∷ l) same
 
-pub plain_kept : (spot : Spot) (bytes : List ℕ) → (spot ≡ Comment → ⊥) → list_all is_plain bytes ≡ true → kept_from spot bytes ≡ bytes
+pub plain_kept : (spot : TextSpot) (bytes : List ℕ) → (spot ≡ Comment → ⊥) → list_all is_plain bytes ≡ true → kept_from spot bytes ≡ bytes
 plain_kept spot [] outside plain = refl
 plain_kept spot (b ∷ bytes) outside plain =
     let parts = and_parts (is_plain b) (list_all is_plain bytes) plain in
@@ -66,7 +66,7 @@ plain_all bytes none =
     list_all-from_AllPass is_plain bytes (All-from_get_or (λ b. is_plain b ≡ true) bytes 0 (λ i l.
     ap not (false_from_ne_true (eqb (get_or bytes i 0) 35) (none i (omega arith) l))))
 
-pub spot_on : (spot : Spot) (bytes : List ℕ) (i : ℕ) → i < length bytes
+pub spot_on : (spot : TextSpot) (bytes : List ℕ) (i : ℕ) → i < length bytes
     → spot_behind spot (take (i + 1) bytes) ≡ next_spot (spot_behind spot (take i bytes)) (get_or bytes i 0)
 spot_on spot bytes i within = ap (spot_behind spot) (take_more bytes i 0 within) ∙ spot-append spot (take i bytes) (get_or bytes i 0 ∷ [])
 
@@ -75,7 +75,7 @@ spot_on spot bytes i within = ap (spot_behind spot) (take_more bytes i 0 within)
 comment_on : (b : ℕ) → is_other b ≡ true → next_spot Comment b ≡ Comment
 comment_on b other = go (eqb b 10) (is_false (eqb b 10) other)
   where
-    go : (feed : Bool) → feed ≡ false → ◌≡◌ {A = Spot} (if feed then Start else Comment) Comment
+    go : (feed : Bool) → feed ≡ false → ◌≡◌ {A = TextSpot} (if feed then Start else Comment) Comment
     go true is = absurd (cc is)
     go false is = refl
 
@@ -125,12 +125,12 @@ decimal_part ds n is fits =
 -- The contents of a writer
 
 -- the text after the first contents
-record HasTold (held : List ℕ) (contents : Option (List ℕ)) (spot : Spot) (cut : Bool) : Type 0 where
+record HasTold (held : List ℕ) (contents : Option (List ℕ)) (spot : TextSpot) (cut : Bool) : Type 0 where
   pub text : List ℕ
   pub has : contents ≡ Some (held ++ text)
   pub stands : cut ≡ false → spot_behind Start text ≡ spot
 
-has_told : (held : List ℕ) (contents : Option (List ℕ)) (spot : Spot) (cut : Bool) → EndsAtSpot (Some held) contents spot cut → HasTold held contents spot cut
+has_told : (held : List ℕ) (contents : Option (List ℕ)) (spot : TextSpot) (cut : Bool) → EndsAtSpot (Some held) contents spot cut → HasTold held contents spot cut
 has_told held None spot cut at = absurd (cc (at.kept held refl))
 has_told held (Some all) spot cut at =
     let front : take (length held) all ≡ held = cc (at.kept held refl) in
@@ -146,7 +146,7 @@ behind_held held text other all is same =
     let two : held ++ text ≡ all = cc same in
     ap (drop (length other)) (sym two ∙ ap (λ l. l ++ text) one) ∙ drop_at other text (length other) refl
 
-stands_at : (held : List ℕ) (contents : Option (List ℕ)) (spot : Spot) (cut : Bool) → HasTold held contents spot cut → EndsAtSpot (Some held) contents spot cut
+stands_at : (held : List ℕ) (contents : Option (List ℕ)) (spot : TextSpot) (cut : Bool) → HasTold held contents spot cut → EndsAtSpot (Some held) contents spot cut
 stands_at held contents spot cut told = record {
   kept = λ other is.
       let one : held ≡ other = cc is in
@@ -154,13 +154,13 @@ stands_at held contents spot cut told = record {
   stands = λ other all is same whole. ap (spot_behind Start) (behind_held held told.text other all is (sym told.has ∙ same)) ∙ told.stands whole;
 }
 
-unknown : (contents : Option (List ℕ)) (spot : Spot) (cut : Bool) → EndsAtSpot None contents spot cut
+unknown : (contents : Option (List ℕ)) (spot : TextSpot) (cut : Bool) → EndsAtSpot None contents spot cut
 unknown contents spot cut = record { kept = λ held is. absurd (cc is); stands = λ held all is. absurd (cc is) }
 
 uncommented_is : (held text : List ℕ) → uncommented (Some held) (Some (held ++ text)) ≡ Some (held ++ without_comments text)
 uncommented_is held text = ap (λ l. Some (held ++ without_comments l)) (drop_at held text (length held) refl)
 
-pub remarked : (first contents : Option (List ℕ)) (spot : Spot) (cut : Bool) → EndsAtSpot first contents spot cut → IsRemarked first contents (uncommented first contents)
+pub remarked : (first contents : Option (List ℕ)) (spot : TextSpot) (cut : Bool) → EndsAtSpot first contents spot cut → IsRemarked first contents (uncommented first contents)
 remarked None contents spot cut at = record { known = λ held is. absurd (cc is) }
 remarked (Some held) contents spot cut at =
     let told = has_told held contents spot cut at in
@@ -174,7 +174,7 @@ remarked (Some held) contents spot cut at =
     }
 
 -- a text was written: its part outside comments counts
-module _ (held text : List ℕ) (spot : Spot) (stands : spot_behind Start text ≡ spot) (t : List ℕ) where
+module _ (held text : List ℕ) (spot : TextSpot) (stands : spot_behind Start text ≡ spot) (t : List ℕ) where
   grown : (old : Option (List ℕ)) → old ≡ Some (held ++ text) → (new : Option (List ℕ)) → Appends (Some (held ++ text)) new t
       → Appends (uncommented (Some held) old) (uncommented (Some held) new) (kept_from spot t) × HasTold held new (spot_behind spot t) false
   grown old is None appends = absurd appends
@@ -190,7 +190,7 @@ module _ (held text : List ℕ) (spot : Spot) (stands : spot_behind Start text �
         record { text = text ++ t; has = ap Some all; stands = λ _. spot-append Start text t ∙ ap (λ s. spot_behind s t) stands },
       )
 
-told : (first x y : Option (List ℕ)) (spot : Spot) (t : List ℕ) → EndsAtSpot first x spot false → Appends x y t
+told : (first x y : Option (List ℕ)) (spot : TextSpot) (t : List ℕ) → EndsAtSpot first x spot false → Appends x y t
     → Appends (uncommented first x) (uncommented first y) (kept_from spot t) × EndsAtSpot first y (spot_behind spot t) false
 told None x y spot t at appends = (tt, unknown y (spot_behind spot t) false)
 told (Some held) x y spot t at appends =
@@ -209,7 +209,7 @@ kept_nil (Some x) None keeps = absurd keeps
 kept_nil (Some x) (Some y) keeps = keeps ∙ sym (append-nil x)
 
 -- a part of a comment was written
-pub told_part : (first x y : Option (List ℕ)) (spot to : Spot) (t : List ℕ) → IsCommentPart spot t to → EndsAtSpot first x spot false → Appends x y t
+pub told_part : (first x y : Option (List ℕ)) (spot to : TextSpot) (t : List ℕ) → IsCommentPart spot t to → EndsAtSpot first x spot false → Appends x y t
     → Keeps (uncommented first x) (uncommented first y) × EndsAtSpot first y to false
 told_part first x y spot to t part at appends =
     let now = told first x y spot t at appends in (
@@ -218,7 +218,7 @@ told_part first x y spot to t part at appends =
     )
 
 -- or a beginning of it
-pub told_cut : (first x y : Option (List ℕ)) (spot to other : Spot) (t : List ℕ) → IsCommentPart spot t to → EndsAtSpot first x spot false → AppendsBeginning x y t
+pub told_cut : (first x y : Option (List ℕ)) (spot to other : TextSpot) (t : List ℕ) → IsCommentPart spot t to → EndsAtSpot first x spot false → AppendsBeginning x y t
     → Keeps (uncommented first x) (uncommented first y) × EndsAtSpot first y other true
 told_cut first x y spot to other t part at begins =
     let now = told first x y spot begins.written at begins.appends in
@@ -230,7 +230,7 @@ told_cut first x y spot to other t part at begins =
     )
 
 -- nothing was written
-pub told_nothing : (first x y : Option (List ℕ)) (spot : Spot) (cut : Bool) → Keeps x y → EndsAtSpot first x spot cut
+pub told_nothing : (first x y : Option (List ℕ)) (spot : TextSpot) (cut : Bool) → Keeps x y → EndsAtSpot first x spot cut
     → Keeps (uncommented first x) (uncommented first y) × EndsAtSpot first y spot cut
 told_nothing first None y spot cut keeps at = go first at
   where
@@ -244,7 +244,7 @@ told_nothing first (Some xs) (Some ys) spot cut keeps at = (
 )
 
 -- text that is no comment was written
-pub told_plain : (first x y : Option (List ℕ)) (spot : Spot) (t : List ℕ) → (spot ≡ Comment → ⊥) → list_all is_plain t ≡ true → EndsAtSpot first x spot false → Appends x y t
+pub told_plain : (first x y : Option (List ℕ)) (spot : TextSpot) (t : List ℕ) → (spot ≡ Comment → ⊥) → list_all is_plain t ≡ true → EndsAtSpot first x spot false → Appends x y t
     → Appends (uncommented first x) (uncommented first y) t × EndsAtSpot first y (spot_behind spot t) false
 told_plain first x y spot t outside plain at appends =
     let now = told first x y spot t at appends in

@@ -1,28 +1,28 @@
 -- trusted: comments of a record: those that are written, and a text without its comments.
 use Rattle.std.specs.Prelude.{◌≡◌, ℕ, ◌+◌, ◌/◌, ◌%◌, Bool, true, false, ◌&&◌, List, [], ◌∷◌, ◌++◌, take, flat_map, Option, Some, codes, decimal, nat_le, nat_lt, ◌==◌, if◌then◌else◌}
 use Rattle.std.specs.Str.Lines.{strip_carriage_return}
-use Rattle.batch_serve.specs.declared.remarked.Spot.{Spot}
-use Rattle.batch_serve.specs.declared.remarked.Spot.TheVariants.{Start, Line, Comment}
+use Rattle.batch_serve.specs.declared.remarked.TextSpot.{TextSpot}
+use Rattle.batch_serve.specs.declared.remarked.TextSpot.TheVariants.{Start, Line, Comment}
 
 -- Texts with comments
 
 -- the spot at which a text ends after this byte: at the start of a line, in the midst of one, or in a comment
-abbrev pub next_spot : Spot → ℕ → Spot
+abbrev pub next_spot : TextSpot → ℕ → TextSpot
 next_spot Start b = if b == 10 then Start else (if b == 35 then Comment else Line)
 next_spot Line b = if b == 10 then Start else Line
 next_spot Comment b = if b == 10 then Start else Comment
 
-abbrev pub spot_behind : Spot → List ℕ → Spot
+abbrev pub spot_behind : TextSpot → List ℕ → TextSpot
 spot_behind spot [] = spot
 spot_behind spot (b ∷ bytes) = spot_behind (next_spot spot b) bytes
 
 -- the byte is one of a comment, which begins with `#` at the start of a line and has the line feed at its end
-abbrev pub is_hidden : Spot → ℕ → Bool
+abbrev pub is_hidden : TextSpot → ℕ → Bool
 is_hidden Start b = b == 35
 is_hidden Line b = false
 is_hidden Comment b = true
 
-abbrev pub kept_from : Spot → List ℕ → List ℕ
+abbrev pub kept_from : TextSpot → List ℕ → List ℕ
 kept_from spot [] = []
 kept_from spot (b ∷ bytes) = if is_hidden spot b then kept_from (next_spot spot b) bytes else b ∷ kept_from (next_spot spot b) bytes
 

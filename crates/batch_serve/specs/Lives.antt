@@ -10,7 +10,7 @@ use Rattle.batch_serve.specs.Runs.{Run, due_of, last_of, runs_text}
 use Rattle.batch_serve.specs.Served.{AreServed, AreWhole, ShowNoWant}
 use Rattle.batch_serve.specs.Turns.{IsSameBut, IsTurned}
 use Rattle.batch_serve.specs.Waits.{IsAccount}
-use Rattle.batch_serve.specs.declared.desk.Desk.{Desk}
+use Rattle.batch_serve.specs.declared.desk.ServedDesk.{ServedDesk}
 use Rattle.batch_serve.specs.declared.rounds.Writer.{Writer}
 use Rattle.batch_serve.specs.declared.desk_server.DeskServer.{DeskServer}
 
@@ -38,7 +38,7 @@ pub record IsLife (begun : Beginning) (safe : Type 0) (runs answers : List Run) 
   pub last : s.last ≡ last_of None runs
   pub is_kept : safe → now.kept ≡ begun.kept ++ runs_text s.names.items None runs
   pub is_recorded : Appends begun.recorded now.recorded (runs_text s.names.items None answers)
-  pub each : (desk : ℕ) (other : Desk) → desk < length s.desks.items
+  pub each : (desk : ℕ) (other : ServedDesk) → desk < length s.desks.items
       → IsAccount (due_of desk (get_or s.desks.items desk other).unit answers) (now.told desk) (get_or s.desks.items desk other).waiting
 
 -- a turn continues the account by the runs of its group and their answers, whatever the keeper
@@ -67,5 +67,5 @@ LivesHandOn {K} is_safe =
 abbrev pub LivesBegin : {K : Type 0} → (K → Type 0) → Type 0
 LivesBegin {K} is_safe =
     (keeper : K) (begun : Beginning) (s : DeskServer) → s.engine.cleared ≡ begun.set → plant_of s.engine ≡ begun.plant → s.last ≡ None
-    → ((desk : ℕ) (other : Desk) → desk < length s.desks.items → IsAccount [] [] (get_or s.desks.items desk other).waiting)
+    → ((desk : ℕ) (other : ServedDesk) → desk < length s.desks.items → IsAccount [] [] (get_or s.desks.items desk other).waiting)
     → IsLife begun (is_safe keeper) [] [] (record { kept = begun.kept; recorded = begun.recorded; told = λ _. [] }) s

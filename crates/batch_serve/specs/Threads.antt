@@ -4,24 +4,24 @@ use Rattle.std.specs.Io.KnownBytes.{Appends, Consumes, IsAtEnd}
 use Rattle.std.specs.List.{list_any}
 use Rattle.batch_wire.specs.Written.{AppendsBeginning}
 use Rattle.batch_serve.specs.Rounds.{AreMessagesOf, HaveWholeLines, is_end, text_sent}
-use Rattle.batch_serve.specs.declared.rounds.Sent.{Sent}
+use Rattle.batch_serve.specs.declared.rounds.ReaderMessage.{ReaderMessage}
 
 -- Readers
 
 -- each message of an input may follow those before it, behind these
-abbrev pub MayHandOver : (List Sent → Sent → Type 0) → List Sent → Option (List ℕ) → Type 0
-MayHandOver allows before input = (messages : List Sent) (next : Sent) → AreMessagesOf input (messages ++ next ∷ []) → allows (before ++ messages) next
+abbrev pub MayHandOver : (List ReaderMessage → ReaderMessage → Type 0) → List ReaderMessage → Option (List ℕ) → Type 0
+MayHandOver allows before input = (messages : List ReaderMessage) (next : ReaderMessage) → AreMessagesOf input (messages ++ next ∷ []) → allows (before ++ messages) next
 
 -- all that was read was handed over, in whole lines
-pub record ReadsOn (old new : Option (List ℕ)) (before after : List Sent) : Type 0 where
-  pub items : List Sent
+pub record ReadsOn (old new : Option (List ℕ)) (before after : List ReaderMessage) : Type 0 where
+  pub items : List ReaderMessage
   pub whole : HaveWholeLines items
   pub went : after ≡ before ++ items
   pub read : Consumes old new (text_sent items)
 
 -- whole lines, a prefix of the text read, were handed over; if it ended well, all of it, to the end of the input, and then the end
-pub record IsInputRead (ended : Bool) (old new : Option (List ℕ)) (before after : List Sent) : Type 0 where
-  pub items : List Sent
+pub record IsInputRead (ended : Bool) (old new : Option (List ℕ)) (before after : List ReaderMessage) : Type 0 where
+  pub items : List ReaderMessage
   pub whole : HaveWholeLines items
   pub rest : List ℕ
   pub went : after ≡ before ++ items
@@ -31,7 +31,7 @@ pub record IsInputRead (ended : Bool) (old new : Option (List ℕ)) (before afte
   pub told : ended ≡ true → list_any is_end items ≡ true
 
 -- one step of it
-abbrev pub ReadsNext : Option Bool → Option (List ℕ) → Option (List ℕ) → List Sent → List Sent → Type 0
+abbrev pub ReadsNext : Option Bool → Option (List ℕ) → Option (List ℕ) → List ReaderMessage → List ReaderMessage → Type 0
 ReadsNext None old new before after = ReadsOn old new before after
 ReadsNext (Some ended) old new before after = IsInputRead ended old new before after
 

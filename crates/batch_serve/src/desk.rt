@@ -7,7 +7,7 @@ ghost use Rattle.batch_serve.specs.Waits.{IsAccount, nothing_waits};
 ghost use Rattle.batch_serve.specs.Told.{AreDesksTold, IsDeskTold};
 
 use crate::desks_fault::CutReason;
-use crate::line::Line;
+use crate::line::DeskLine;
 use crate::run::Run;
 use crate::sorting::is_due;
 use crate::waiting::Waiting;
@@ -16,24 +16,24 @@ use std::alloc::Global;
 
 /// A desk, which is a console or the link of a unit, without its paths and its threads.
 #[derive(Drop)]
-pub struct Desk {
+pub struct ServedDesk {
     /// The unit of which it sees the starts and sends. A console, which has none, sees each move.
     pub unit: Option<Name>,
     /// The lines queued for it.
-    pub waiting: Waiting<Line>,
+    pub waiting: Waiting<DeskLine>,
     /// Why the server cut it, if it did.
     pub why: Option<CutReason>,
 }
 
-impl Desk {
+impl ServedDesk {
     /// A desk with an empty queue. So many lines may be queued for it.
     // claim: new desks
-    pub fn new(alloc: Global, unit: Option<Name>, lag: usize) -> Desk
+    pub fn new(alloc: Global, unit: Option<Name>, lag: usize) -> ServedDesk
         ensures unit { result.unit ≡ unit }
         ensures waiting { result.waiting ≡ nothing_waits lag }
         ensures why { result.why ≡ None }
     {
-        Desk {
+        ServedDesk {
             unit,
             waiting: Waiting::new(alloc, lag),
             why: None,
@@ -57,7 +57,7 @@ impl Desk {
         if !is_due(line, is_own, &self.unit) {
             return;
         }
-        match Line::new(alloc, line) {
+        match DeskLine::new(alloc, line) {
             Ok(copy) => {
                 if self.waiting.push(copy).is_err() {
                     self.why = Some(CutReason::Memory);
@@ -96,7 +96,7 @@ impl Desk {
 }
 
 /// Queues for each desk those lines of the answers that are due to it.
-pub fn queue_for_each(alloc: Global, desks: &mut Vec<Desk>, answers: &[Run])
+pub fn queue_for_each(alloc: Global, desks: &mut Vec<ServedDesk>, answers: &[Run])
     ensures { AreDesksTold answers.now desks.old.items desks.new.items }
 {
     for desk in 0..desks.len() {

@@ -4,14 +4,14 @@ ghost use Rattle.std.specs.Io.KnownBytes.{Appends, Keeps};
 ghost use Rattle.batch_serve.specs.Runs.{AreOfDesks, own_text, runs_text};
 ghost use Rattle.batch_serve.specs.Served.{AreWhole, ShowNoWant};
 ghost use Rattle.batch_serve.specs.Turns.{IsSameBut, IsTurned, MayBeKept, with_run};
-ghost use Rattle.batch_serve.specs.declared.desk.Desk.{Desk as OneDesk};
+ghost use Rattle.batch_serve.specs.declared.desk.ServedDesk.{ServedDesk as OneDesk};
 
-use crate::desk::{Desk, queue_for_each};
+use crate::desk::{ServedDesk, queue_for_each};
 use crate::desks_fault::TurnFault;
 use crate::desks_remarks::{last_of, runs_text};
 use crate::desks_serving::serve_runs;
 use crate::held::shows_want;
-use crate::keep::{Keep, KeepFault};
+use crate::keep::{Keep, PersistFault};
 use crate::run::Run;
 use batch_engine::Engine;
 use batch_journal::are_whole_lines;
@@ -29,7 +29,7 @@ pub struct DeskServer {
     /// The names of the desks, in their order.
     pub names: Vec<Name>,
     /// The desks.
-    pub desks: Vec<Desk>,
+    pub desks: Vec<ServedDesk>,
     /// The lines that are to be served in the next turn.
     pub group: Vec<Run>,
     /// The place of the desk whose lines were served last.
@@ -39,7 +39,12 @@ pub struct DeskServer {
 impl DeskServer {
     /// A server over a machine, before it serves a line.
     // claim: new desks
-    pub fn new(alloc: Global, engine: Engine, names: Vec<Name>, desks: Vec<Desk>) -> DeskServer
+    pub fn new(
+        alloc: Global,
+        engine: Engine,
+        names: Vec<Name>,
+        desks: Vec<ServedDesk>,
+    ) -> DeskServer
         ensures engine { result.engine ≡ engine }
         ensures names { result.names ≡ names }
         ensures desks { result.desks ≡ desks }
@@ -119,11 +124,11 @@ impl DeskServer {
 /// Checks that runs are whole lines, if lines are to be replayed: in a journal others would be joined.
 ///
 /// The error is that one isn't.
-fn check_whole(is_served_again: bool, runs: &[Run]) -> Result<(), KeepFault>
+fn check_whole(is_served_again: bool, runs: &[Run]) -> Result<(), PersistFault>
     ensures { OnOk result (is_served_again ≡ true → AreWhole runs.now) }
 {
     if is_served_again && !are_whole(runs) {
-        return Err(KeepFault);
+        return Err(PersistFault);
     }
     Ok(())
 }

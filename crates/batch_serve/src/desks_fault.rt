@@ -1,7 +1,7 @@
 //! The faults of a turn, and the reasons to cut a desk.
 ghost use Rattle.std.specs.Prelude.{◌≡◌};
 
-use crate::keep::KeepFault;
+use crate::keep::PersistFault;
 use batch_wire::WriteFault;
 use std::alloc::AllocError;
 use thiserror::Error;
@@ -41,12 +41,12 @@ impl From<AllocError> for TurnFault {
     }
 }
 
-impl From<KeepFault> for TurnFault {
+impl From<PersistFault> for TurnFault {
     ghost use Rattle.batch_serve.specs.declared.desks_fault.TurnFault.TheVariants as faults;
 
     ghost from_gives = { λ _ fault. fault ≡ faults.Journal };
 
-    fn from(_fault: KeepFault) -> TurnFault {
+    fn from(_fault: PersistFault) -> TurnFault {
         TurnFault::Journal
     }
 }

@@ -12,7 +12,7 @@ ghost use Rattle.batch_serve.specs.RowsOfWaits.{FrontIsTold, NoOtherIsTold, Rest
 
 use crate::keep::Keep;
 use crate::laws::transcripts_are_safe;
-use crate::rounds::Sent;
+use crate::rounds::ReaderMessage;
 use batch_safety::cleared_sets_run_safely;
 use batch_verify::Cleared;
 use rtrb::Protocol;
@@ -101,6 +101,6 @@ pub fn lives_go_on<K: Keep>()
 ///
 /// As long as the desk isn't cut, they are those of all these messages. That stays so as more come.
 // claim: lines from readers
-pub fn lines_go_on<O: Protocol<Sent>>()
+pub fn lines_go_on<O: Protocol<ReaderMessage>>()
     ensures { LinesGoOn O O.allows }
 {}

@@ -1,11 +1,11 @@
 //! The lines of turns in a journal: each turn's are one group, which is synced before any of them is answered.
 
-use crate::keep::{Keep, KeepFault};
-use batch_journal::{Disk, Groups, Run};
+use crate::keep::{Keep, PersistFault};
+use batch_journal::{Disk, Groups, JournalRun};
 use std::time::Clock;
 
 // claim: turns in a journal
-impl<D: Disk, K: Clock, C: Run> Keep for Groups<D, K, C> {
+impl<D: Disk, K: Clock, C: JournalRun> Keep for Groups<D, K, C> {
     ghost use Rattle.std.specs.Prelude.{true};
 
     ghost is_safe = { λ groups. D.is_disk groups.disk };
@@ -14,10 +14,10 @@ impl<D: Disk, K: Clock, C: Run> Keep for Groups<D, K, C> {
 
     ghost again = { true };
 
-    fn persist(&mut self, lines: &[u8]) -> Result<(), KeepFault> {
+    fn persist(&mut self, lines: &[u8]) -> Result<(), PersistFault> {
         match Groups::persist(self, lines) {
             Ok(()) => Ok(()),
-            Err(_) => Err(KeepFault),
+            Err(_) => Err(PersistFault),
         }
     }
 

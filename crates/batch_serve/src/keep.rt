@@ -21,7 +21,7 @@ pub trait Keep {
     /// Keeps the lines of a turn, as one group. At Ok they are safe.
     ///
     /// The error is that they can't be kept. From then on no line may be queued for a desk.
-    fn persist(&mut self, lines: &[u8]) -> Result<(), KeepFault>
+    fn persist(&mut self, lines: &[u8]) -> Result<(), PersistFault>
         ensures kept { is_safe self.new → OnOk result (kept self.new ≡ kept self.old ++ lines.now) }
         ensures unkept { is_safe self.new → OnErr result (kept self.new ≡ kept self.old) }
         ensures stays { is_safe self.new → is_safe self.old };
@@ -34,7 +34,7 @@ pub trait Keep {
 /// Lines couldn't be kept.
 #[derive(Clone, Copy, Debug, Error)]
 #[error("the journal can't be written")]
-pub struct KeepFault;
+pub struct PersistFault;
 
 /// Keeps nothing.
 #[derive(Drop)]
@@ -49,7 +49,7 @@ impl Keep for NoJournal {
 
     ghost again = { false };
 
-    fn persist(&mut self, _lines: &[u8]) -> Result<(), KeepFault> {
+    fn persist(&mut self, _lines: &[u8]) -> Result<(), PersistFault> {
         Ok(())
     }
 

@@ -34,7 +34,7 @@ mod writing;
 
 pub use answering::answer_line;
 pub use clean_lines::CleanReader;
-pub use desk::Desk;
+pub use desk::ServedDesk;
 pub use desk_server::DeskServer;
 pub use desks_fault::{CutReason, TurnFault};
 pub use desks_laws::{
@@ -45,7 +45,7 @@ pub use desks_remarks::runs_text;
 pub use fault::{ServeFault, SetFault};
 pub use held::{Held, Start, shows_want};
 pub use held_remarks::HeldRemarks;
-pub use keep::{Keep, KeepFault, NoJournal};
+pub use keep::{Keep, NoJournal, PersistFault};
 pub use laws::{
     clean_line_rows, clean_lines_agree, clean_lines_serve_alike, comment_rows, held_rows,
     no_want_is_well, serving_agrees, told_is_recovered, transcripts_are_safe,
@@ -53,14 +53,14 @@ pub use laws::{
     want_is_not_told,
 };
 pub use limits::piece_limit_is_fixed;
-pub use line::Line;
+pub use line::DeskLine;
 pub use pause::Pause;
 pub use reading::read_lines;
 pub use remarked::Remarked;
 pub use remarked_set::serve_remarked;
 pub use remarking::Remarking;
 pub use remarks::{NoRemarks, Remarks};
-pub use rounds::{Lines, Reader, Sent, Writer};
+pub use rounds::{Lines, Reader, ReaderMessage, Writer};
 pub use run::Run;
 pub use serving::serve;
 pub use set::serve_set;

@@ -6,11 +6,11 @@ use std::marker::Model;
 
 /// A line without its line feed. A contract sees it as the list of its bytes.
 #[derive(Drop)]
-pub struct Line {
+pub struct DeskLine {
     text: Vec<u8>,
 }
 
-impl Model for Line {
+impl Model for DeskLine {
     ghost use Rattle.std.specs.Prelude.{ℕ, List};
 
     ghost Value = { List ℕ };
@@ -18,14 +18,14 @@ impl Model for Line {
     ghost view = { λ line. line.text.items };
 }
 
-impl Line {
+impl DeskLine {
     /// A copy of a line.
     ///
     /// The error is that there is no memory for it.
-    pub fn new(alloc: Global, text: &[u8]) -> Result<Line, AllocError>
+    pub fn new(alloc: Global, text: &[u8]) -> Result<DeskLine, AllocError>
         ensures { IfOk result (λ line. line ≡ text.now) }
     {
-        Ok(Line {
+        Ok(DeskLine {
             text: text.to_vec(alloc)?,
         })
     }

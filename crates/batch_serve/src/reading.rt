@@ -6,7 +6,7 @@ ghost use Rattle.batch_serve.specs.Threads.{IsInputRead, MayHandOver, ReadsNext}
 ghost use Rattle.batch_serve.specs.Pieces.{HasGot};
 
 use crate::pause::Pause;
-use crate::rounds::{Lines, Sent};
+use crate::rounds::{Lines, ReaderMessage};
 use rtrb::{Producer, Protocol};
 use std::alloc::Global;
 use std::io::{ErrorKind, Read};
@@ -30,11 +30,11 @@ enum Got {
 /// The ring's protocol allows the lines of the input, in order, and the end behind all of them.
 // claim: reader of a desk
 #[tactic(auto, using(crate::proofs::ReadersAndWriters::reads_begin, crate::proofs::ReadersAndWriters::reads_twice, crate::proofs::ReadersAndWriters::reads_stop))]
-pub fn read_lines<R: Read, O: Protocol<Sent>, P: Pause>(
+pub fn read_lines<R: Read, O: Protocol<ReaderMessage>, P: Pause>(
     alloc: Global,
     input: &mut R,
     room: &mut [u8],
-    ring: &mut Producer<Sent, Global, O>,
+    ring: &mut Producer<ReaderMessage, Global, O>,
     pause: &mut P,
 ) -> bool
     requires room { 0 < length room.old }
@@ -52,11 +52,11 @@ pub fn read_lines<R: Read, O: Protocol<Sent>, P: Pause>(
 
 /// Reads once, and puts the lines or the end into the ring. Returns the result of `read_lines`, if that ends it.
 #[tactic(auto, using(crate::proofs::ReadersAndWriters::lines_read, crate::proofs::ReadersAndWriters::nothing_read, crate::proofs::ReadersAndWriters::lines_lost, crate::proofs::ReadersAndWriters::end_read, crate::proofs::ReadersAndWriters::may_after_nothing))]
-fn read_next<R: Read, O: Protocol<Sent>, P: Pause>(
+fn read_next<R: Read, O: Protocol<ReaderMessage>, P: Pause>(
     alloc: Global,
     input: &mut R,
     room: &mut [u8],
-    ring: &mut Producer<Sent, Global, O>,
+    ring: &mut Producer<ReaderMessage, Global, O>,
     pause: &mut P,
 ) -> Option<bool>
     requires room { 0 < length room.old }
@@ -70,14 +70,14 @@ fn read_next<R: Read, O: Protocol<Sent>, P: Pause>(
     }
     match read_once(alloc, input, room) {
         Got::Lines(lines) => {
-            if hand_over(ring, Sent::Lines(lines), pause) {
+            if hand_over(ring, ReaderMessage::Lines(lines), pause) {
                 None
             } else {
                 Some(false)
             }
         }
         Got::Nothing => None,
-        Got::End => Some(hand_over(ring, Sent::End, pause)),
+        Got::End => Some(hand_over(ring, ReaderMessage::End, pause)),
         Got::Fault => Some(false),
     }
 }
@@ -108,9 +108,9 @@ fn copy_lines(alloc: Global, text: &[u8]) -> Option<Lines>
 }
 
 /// Puts an item into the ring, once there is place. Returns false if the other end is gone, or the pause says to end.
-fn hand_over<O: Protocol<Sent>, P: Pause>(
-    ring: &mut Producer<Sent, Global, O>,
-    item: Sent,
+fn hand_over<O: Protocol<ReaderMessage>, P: Pause>(
+    ring: &mut Producer<ReaderMessage, Global, O>,
+    item: ReaderMessage,
     pause: &mut P,
 ) -> bool
     requires { O.allows (sent ring.old) item }
@@ -127,8 +127,8 @@ fn hand_over<O: Protocol<Sent>, P: Pause>(
 }
 
 /// Waits until the ring has a place. Returns false if the other end is gone, or the pause says to end.
-fn wait_for_place<O: Protocol<Sent>, P: Pause>(
-    ring: &mut Producer<Sent, Global, O>,
+fn wait_for_place<O: Protocol<ReaderMessage>, P: Pause>(
+    ring: &mut Producer<ReaderMessage, Global, O>,
     pause: &mut P,
 ) -> bool
     ensures ring { SameProducer ring.old ring.new }

@@ -14,7 +14,7 @@ use std::marker::PhantomData;
 
 /// The spot at which a text ends.
 #[derive(Clone, Copy)]
-pub enum Spot {
+pub enum TextSpot {
     /// At the start of a line.
     Start,
     /// In the midst of a line.
@@ -30,7 +30,7 @@ pub enum Spot {
 #[derive(Drop)]
 pub struct Remarked<W: Write, C: Start> {
     inner: W,
-    spot: Spot,
+    spot: TextSpot,
     // a part of a comment failed
     is_cut: bool,
     of: PhantomData<C>,
@@ -46,7 +46,7 @@ impl<W: Write, C: Start> Remarked<W, C> {
     {
         Remarked {
             inner,
-            spot: Spot::Start,
+            spot: TextSpot::Start,
             is_cut: false,
             of: PhantomData,
         }
@@ -61,7 +61,12 @@ impl<W: Write, C: Start> Remarked<W, C> {
     }
 
     /// Writes a part of a comment, which begins at the one spot and ends at the other. It fails if the text doesn't end at the first.
-    pub(crate) fn write_part(&mut self, from: Spot, part: &[u8], to: Spot) -> Result<(), WriteFault>
+    pub(crate) fn write_part(
+        &mut self,
+        from: TextSpot,
+        part: &[u8],
+        to: TextSpot,
+    ) -> Result<(), WriteFault>
         requires { IsCommentPart from part.now to }
         ensures kept { Keeps (uncommented C.contents (W.contents self.old.inner)) (uncommented C.contents (W.contents self.new.inner)) }
         ensures written { OnOk result (Appends (W.contents self.old.inner) (W.contents self.new.inner) part.now) }
@@ -102,37 +107,37 @@ impl<W: Write, C: Start> Write for Remarked<W, C> {
 }
 
 /// Whether a text that ends at `spot`, with no part of a comment missing, is ready for a part that begins at `from`.
-fn is_ready(spot: Spot, is_cut: bool, from: Spot) -> bool
+fn is_ready(spot: TextSpot, is_cut: bool, from: TextSpot) -> bool
     ensures { IsTrue result → (is_cut ≡ false) × (spot ≡ from) }
 {
     !is_cut && is_at(spot, from)
 }
 
-fn is_at(spot: Spot, from: Spot) -> bool
+fn is_at(spot: TextSpot, from: TextSpot) -> bool
     ensures { IsTrue result → spot ≡ from }
 {
     match (spot, from) {
-        (Spot::Start, Spot::Start) => true,
-        (Spot::Line, Spot::Line) => true,
-        (Spot::Comment, Spot::Comment) => true,
+        (TextSpot::Start, TextSpot::Start) => true,
+        (TextSpot::Line, TextSpot::Line) => true,
+        (TextSpot::Comment, TextSpot::Comment) => true,
         _ => false,
     }
 }
 
 /// Whether the bytes may follow a record that ends at this spot.
-fn may_follow(spot: Spot, is_cut: bool, bytes: &[u8]) -> bool
-    ensures { IsTrue result → (is_cut ≡ false) × (spot ≢ Spot.Comment) × (list_all is_plain bytes.now ≡ true) }
+fn may_follow(spot: TextSpot, is_cut: bool, bytes: &[u8]) -> bool
+    ensures { IsTrue result → (is_cut ≡ false) × (spot ≢ TextSpot.Comment) × (list_all is_plain bytes.now ≡ true) }
 {
     !is_cut && is_outside(spot) && is_plain(bytes)
 }
 
-fn is_outside(spot: Spot) -> bool
-    ensures { IsTrue result → spot ≢ Spot.Comment }
+fn is_outside(spot: TextSpot) -> bool
+    ensures { IsTrue result → spot ≢ TextSpot.Comment }
 {
     match spot {
-        Spot::Comment => false,
-        Spot::Start => true,
-        Spot::Line => true,
+        TextSpot::Comment => false,
+        TextSpot::Start => true,
+        TextSpot::Line => true,
     }
 }
 
@@ -148,7 +153,7 @@ fn is_plain(bytes: &[u8]) -> bool
 
 /// The spot at which a text ends after these bytes.
 #[tactic(auto, using(crate::proofs::TextsWithComments::spot_on))]
-fn spot_behind(spot: Spot, bytes: &[u8]) -> Spot
+fn spot_behind(spot: TextSpot, bytes: &[u8]) -> TextSpot
     ensures { result ≡ spot_behind spot bytes.now }
 {
     let mut at = spot;
@@ -158,16 +163,16 @@ fn spot_behind(spot: Spot, bytes: &[u8]) -> Spot
     at
 }
 
-fn next_spot(spot: Spot, byte: u8) -> Spot
+fn next_spot(spot: TextSpot, byte: u8) -> TextSpot
     ensures { result ≡ next_spot spot byte }
 {
     match spot {
-        Spot::Start if byte == b'\n' => Spot::Start,
-        Spot::Start if byte == b'#' => Spot::Comment,
-        Spot::Start => Spot::Line,
-        Spot::Line if byte == b'\n' => Spot::Start,
-        Spot::Line => Spot::Line,
-        Spot::Comment if byte == b'\n' => Spot::Start,
-        Spot::Comment => Spot::Comment,
+        TextSpot::Start if byte == b'\n' => TextSpot::Start,
+        TextSpot::Start if byte == b'#' => TextSpot::Comment,
+        TextSpot::Start => TextSpot::Line,
+        TextSpot::Line if byte == b'\n' => TextSpot::Start,
+        TextSpot::Line => TextSpot::Line,
+        TextSpot::Comment if byte == b'\n' => TextSpot::Start,
+        TextSpot::Comment => TextSpot::Comment,
     }
 }

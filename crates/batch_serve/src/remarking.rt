@@ -6,7 +6,7 @@ ghost use Rattle.batch_serve.specs.Remarking.{WritesRemark, uncommented};
 
 use crate::clean_lines::without_return;
 use crate::held::Start;
-use crate::remarked::{Remarked, Spot};
+use crate::remarked::{Remarked, TextSpot};
 use crate::remarks::Remarks;
 use batch_wire::{MAX_LINE_LEN, WriteFault};
 use itoa::Buffer;
@@ -89,9 +89,9 @@ fn write_milliseconds<W: Write, C: Start>(
 {
     let mut buffer = Buffer::new();
     let digits = buffer.format(milliseconds).as_bytes();
-    writer.write_part(Spot::Start, b"# at ", Spot::Comment)?;
-    writer.write_part(Spot::Comment, digits, Spot::Comment)?;
-    writer.write_part(Spot::Comment, b"\n", Spot::Start)
+    writer.write_part(TextSpot::Start, b"# at ", TextSpot::Comment)?;
+    writer.write_part(TextSpot::Comment, digits, TextSpot::Comment)?;
+    writer.write_part(TextSpot::Comment, b"\n", TextSpot::Start)
 }
 
 /// The time in milliseconds since 1970; 0 if the clock doesn't give it.
@@ -110,9 +110,9 @@ fn write_echo<W: Write, C: Start>(
     ensures kept { Keeps (uncommented C.contents (W.contents writer.old.inner)) (uncommented C.contents (W.contents writer.new.inner)) }
     ensures written { OnOk result (Appends (W.contents writer.old.inner) (W.contents writer.new.inner) (echo_text line.now)) }
 {
-    writer.write_part(Spot::Start, b"# > ", Spot::Comment)?;
+    writer.write_part(TextSpot::Start, b"# > ", TextSpot::Comment)?;
     write_escaped(echoed(line), writer)?;
-    writer.write_part(Spot::Comment, b"\n", Spot::Start)
+    writer.write_part(TextSpot::Comment, b"\n", TextSpot::Start)
 }
 
 /// The line without the carriage return at its end; of one that is too long, the first 1,025 bytes.
@@ -142,9 +142,9 @@ fn write_byte<W: Write, C: Start>(byte: u8, writer: &mut Remarked<W, C>) -> Resu
     ensures written { OnOk result (Appends (W.contents writer.old.inner) (W.contents writer.new.inner) (escaped_byte byte)) }
 {
     if is_printable(byte) {
-        writer.write_part(Spot::Comment, &[byte], Spot::Comment)
+        writer.write_part(TextSpot::Comment, &[byte], TextSpot::Comment)
     } else {
-        writer.write_part(Spot::Comment, &escape(byte), Spot::Comment)
+        writer.write_part(TextSpot::Comment, &escape(byte), TextSpot::Comment)
     }
 }
 

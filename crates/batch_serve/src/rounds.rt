@@ -3,12 +3,12 @@ ghost use Rattle.std.specs.Prelude.{◌≡◌, ◌<◌, ◌≤◌, ℕ, length, 
 ghost use Rattle.batch_serve.specs.Rounds.{AreCutIfLate, AreGathered, AreHandedOn, IsCutIfLate, IsGathered, IsHandedOn, IsHandedOver};
 ghost use Rattle.batch_serve.specs.Runs.{AreOfDesks, own_text};
 ghost use Rattle.batch_serve.specs.Turns.{IsSameBut};
-ghost use Rattle.batch_serve.specs.declared.desk.Desk.{Desk as OneDesk};
+ghost use Rattle.batch_serve.specs.declared.desk.ServedDesk.{ServedDesk as OneDesk};
 
-use crate::desk::Desk;
+use crate::desk::ServedDesk;
 use crate::desk_server::DeskServer;
 use crate::desks_fault::CutReason;
-use crate::line::Line;
+use crate::line::DeskLine;
 use rtrb::{Consumer, Producer, Protocol};
 use std::alloc::{AllocError, Global};
 use std::marker::Model;
@@ -52,7 +52,7 @@ impl Lines {
 
 /// A message from the reader of a desk.
 #[derive(Drop)]
-pub enum Sent {
+pub enum ReaderMessage {
     /// The path of the desk's input, if it has one. The maker of the ring sends it first. No code looks at it: by it the ring's
     /// protocol knows the input.
     Path(Option<String>),
@@ -64,9 +64,9 @@ pub enum Sent {
 
 /// The ring through which a desk's reader sends its messages. Its protocol states their order.
 #[derive(Drop)]
-pub struct Reader<O: Protocol<Sent>> {
+pub struct Reader<O: Protocol<ReaderMessage>> {
     /// The ring.
-    pub ring: Consumer<Sent, Global, O>,
+    pub ring: Consumer<ReaderMessage, Global, O>,
     /// Whether the end came.
     pub has_ended: bool,
     /// Whether nothing is to be taken from it for now.
@@ -77,7 +77,7 @@ pub struct Reader<O: Protocol<Sent>> {
 #[derive(Drop)]
 pub struct Writer {
     /// The ring.
-    pub ring: Producer<Line>,
+    pub ring: Producer<DeskLine>,
 }
 
 impl DeskServer {
@@ -85,7 +85,7 @@ impl DeskServer {
     ///
     /// The error is that there is no memory for one run more. The message is lost then, and serving must end.
     // claim: lines from readers
-    pub fn gather<O: Protocol<Sent>>(
+    pub fn gather<O: Protocol<ReaderMessage>>(
         &mut self,
         readers: &mut Vec<Reader<O>>,
     ) -> Result<(), AllocError>
@@ -101,7 +101,7 @@ impl DeskServer {
 
     /// Receives the next message, if there is one, from the reader of a desk, if it doesn't rest.
     #[tactic(auto, using(crate::proofs::DeskLines::lines_gathered, crate::proofs::DeskLines::no_line_gathered, crate::proofs::DeskLines::end_gathered, crate::proofs::DeskLines::nothing_gathered))]
-    fn gather_one<O: Protocol<Sent>>(
+    fn gather_one<O: Protocol<ReaderMessage>>(
         &mut self,
         desk: usize,
         reader: &mut Reader<O>,
@@ -116,9 +116,9 @@ impl DeskServer {
             return Ok(());
         }
         match reader.ring.pop() {
-            Ok(Sent::Lines(lines)) => self.push_lines(desk, lines.into_text())?,
-            Ok(Sent::End) => reader.has_ended = true,
-            Ok(Sent::Path(_path)) => {}
+            Ok(ReaderMessage::Lines(lines)) => self.push_lines(desk, lines.into_text())?,
+            Ok(ReaderMessage::End) => reader.has_ended = true,
+            Ok(ReaderMessage::Path(_path)) => {}
             Err(_) => {}
         }
         Ok(())
@@ -137,7 +137,7 @@ impl DeskServer {
     }
 }
 
-fn hand_on_each(desks: &mut Vec<Desk>, writers: &mut Vec<Writer>)
+fn hand_on_each(desks: &mut Vec<ServedDesk>, writers: &mut Vec<Writer>)
     requires { length writers.old.items ≤ length desks.old.items }
     ensures handed { AreHandedOn desks.old.items desks.new.items writers.old.items writers.new.items }
     ensures late { AreCutIfLate desks.old.items desks.new.items writers.old.items writers.new.items }
@@ -149,7 +149,7 @@ fn hand_on_each(desks: &mut Vec<Desk>, writers: &mut Vec<Writer>)
 }
 
 #[tactic(auto, using(crate::proofs::DeskLines::cut_where_late))]
-fn hand_on(desk: &mut Desk, writer: &mut Writer)
+fn hand_on(desk: &mut ServedDesk, writer: &mut Writer)
     ensures handed { IsHandedOn desk.old desk.new writer.old writer.new }
     ensures late { IsCutIfLate desk.old desk.new writer.old writer.new }
 {

@@ -4,7 +4,7 @@ ghost use Rattle.batch_wire.specs.Written.{Writes};
 ghost use Rattle.rtrb.specs.Ring.{SameConsumer, received};
 ghost use Rattle.batch_serve.specs.Threads.{AreLinesWritten, WritesNext};
 
-use crate::line::Line;
+use crate::line::DeskLine;
 use crate::pause::Pause;
 use batch_wire::{WriteFault, write_all};
 use rtrb::Consumer;
@@ -16,7 +16,7 @@ use std::io::Write;
 // claim: writer of a desk
 #[tactic(auto, using(crate::proofs::ReadersAndWriters::writes_begin, crate::proofs::ReadersAndWriters::writes_twice, crate::proofs::ReadersAndWriters::writes_then, crate::proofs::ReadersAndWriters::writes_stop))]
 pub fn write_lines<W: Write, P: Pause>(
-    ring: &mut Consumer<Line>,
+    ring: &mut Consumer<DeskLine>,
     output: &mut W,
     pause: &mut P,
 ) -> bool
@@ -34,7 +34,7 @@ pub fn write_lines<W: Write, P: Pause>(
 /// Writes the next line, or flushes the output and waits. Returns the result of `write_lines`, if that ends it.
 #[tactic(auto, using(crate::proofs::ReadersAndWriters::line_written, crate::proofs::ReadersAndWriters::line_cut, crate::proofs::ReadersAndWriters::nothing_written, crate::proofs::ReadersAndWriters::all_written))]
 fn write_next<W: Write, P: Pause>(
-    ring: &mut Consumer<Line>,
+    ring: &mut Consumer<DeskLine>,
     output: &mut W,
     pause: &mut P,
 ) -> Option<bool>
@@ -67,7 +67,7 @@ fn write_next<W: Write, P: Pause>(
 }
 
 #[tactic(auto, using(crate::proofs::ReadersAndWriters::line_begun, crate::proofs::ReadersAndWriters::line_ended))]
-fn write_line<W: Write>(output: &mut W, line: &Line) -> Result<(), WriteFault>
+fn write_line<W: Write>(output: &mut W, line: &DeskLine) -> Result<(), WriteFault>
     ensures { Writes (W.contents output.old) (W.contents output.new) result (line.now ++ 10 ∷ []) }
 {
     write_all(output, line.as_slice())?;

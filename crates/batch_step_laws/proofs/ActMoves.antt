@@ -2,7 +2,7 @@
 use Rattle.std.proofs.Common.{◌≡◌, refl, sym, ap, subst, ℕ, zero, suc, pred, Bool, true, false, Some, None, arith, [], ◌<◌, ◌≤◌, ◌+◌, ◌-◌, ◌*◌, length}
 use Rattle.std.{specs.Prelude.Option, specs.Prelude.List, specs.Prelude.find, specs.Prelude.nat_eq, specs.Prelude.option_and_then, specs.Prelude.slice_get, specs.Prelude.◌&&◌, specs.Prelude.◌||◌, specs.Prelude.not, specs.Prelude.⊤, proofs.lemmas.Option.slice_get_within}
 use Rattle.batch_recipe.specs.{Conditions.Name, Following.Follower, Following.follower, Levels.Level, Levels.below, Tree.Place, Tree.Reserve, Tree.Step, Tree.Tree, Tree.Task, Tree.runs, Tree.follows, declared.need.Need.Need}
-use Rattle.batch_model.specs.{Lists.Has, Standing.due_followers, Rest.Rest, Rest.ready, Rest.asking, Rest.open_act, Rest.live, Rest.freeing, Rest.is_done, Rest.place_of, Plant.Setup, Plant.Batch, Plant.Plant, Plant.moment_of, Plant.in_act, Plant.held_in, Moves.Move, Moves.send, Moves.release, Moves.pass, Moves.begin, Moves.start, Moves.end, Moves.ask, Moves.grant, Moves.batch_of, Moves.place_of_move, Moves.passed_on, Moves.is_running, Moves.is_stopping, Moves.is_stopped, Moves.is_quiet, Moves.is_empty, Moves.handed_values, Moves.when, Moves.beginning, Moves.entering, Moves.giving_back, Moves.reserved_place, Moves.handing_over, Moves.is_served, Moves.act_move, Moves.act_after, Moves.passing, Moves.batch_after, Moves.freed, Moves.released, Runs.toil, Runs.toil_of_work, Runs.sends, Runs.goes_on, Runs.ahead, Runs.toil_left}
+use Rattle.batch_model.specs.{Lists.Has, Standing.due_followers, Rest.Rest, Rest.ready, Rest.asking, Rest.open_act, Rest.live, Rest.freeing, Rest.is_done, Rest.place_of, Plant.Setup, Plant.Batch, Plant.Plant, Plant.moment_of, Plant.in_act, Plant.held_in, Moves.Move, Moves.send, Moves.release, Moves.pass, Moves.begin, Moves.start, Moves.end, Moves.ask, Moves.grant, Moves.batch_of, Moves.place_of_move, Moves.command_passed_on, Moves.is_running, Moves.is_stopping, Moves.is_stopped, Moves.is_quiet, Moves.is_empty, Moves.handed_values, Moves.when, Moves.beginning, Moves.entering, Moves.giving_back, Moves.reserved_place, Moves.handing_over, Moves.is_served, Moves.act_move, Moves.act_after, Moves.passing, Moves.batch_after, Moves.freed, Moves.released, Runs.toil, Runs.toil_of_work, Runs.sends, Runs.goes_on, Runs.ahead, Runs.toil_left}
 use Rattle.batch_step_laws.proofs.{DueUnitProcedures.done-is, WorkAfterAdvance.going, WorkAfterAdvance.going_no_further, WorkAfterAdvance.reach-toil, RestsAfterChange.RemainsAs, RestsAfterChange.sent-remains, RestsAfterChange.released-remains, RestsAfterChange.ended-remains, RestsAfterChange.begun-remains}
 use Rattle.batch_matrix.specs.{declared.state.State.State, declared.state.State.TheVariants.Running, declared.command.Command.Command, Matrix.accepts, Matrix.target}
 
@@ -38,7 +38,7 @@ own : (c : Command) → accepts (target c) c ≡ false
 own c = grind arith
 
 -- a command that is passed on isn't passed on again
-sent-once : (x t : State) (c : Command) → passed_on x ≡ Some c → accepts t c ≡ true → (sends x (target c) ≡ 0) × (sends x t ≡ 1)
+sent-once : (x t : State) (c : Command) → command_passed_on x ≡ Some c → accepts t c ≡ true → (sends x (target c) ≡ 0) × (sends x t ≡ 1)
 sent-once x t c e a = grind (arith, own c)
 
 pub running-goes_on : (x : State) → is_running x ≡ true → goes_on x ≡ true
@@ -240,9 +240,9 @@ module _ (b : Batch) where
             coming = tt;
             due_stays = λ on level next f i. ended-due level next p r f n.0 i;
           })
-  act_move-is c s (live p y t) m e = go (passed_on b.state) refl e
+  act_move-is c s (live p y t) m e = go (command_passed_on b.state) refl e
     where
-      go : (o : Option Command) → passed_on b.state ≡ o
+      go : (o : Option Command) → command_passed_on b.state ≡ o
           → elim o [ None ↦ None | Some d ↦ when (accepts t d) (send b.number p.place y d) ] ≡ Some m
           → IsMoveOf b (live p y t) m
       go None h f = absurd cc

@@ -1,6 +1,6 @@
 -- After `reach`, `advance` and the withdrawal of asks nothing is left to be reached.
 use Rattle.std.proofs.Common.{arith, ◌≡◌, refl, ◌∙◌, ap₂, ◌&&◌, ℕ, zero, suc, pred, Bool, true, false}
-use Rattle.batch_recipe.specs.{Conditions.holds, declared.condition.Cond.Cond, Tree.Tree, Tree.act, Tree.skip, Tree.seq, Tree.par, Tree.sel, Tree.loop, Tree.Trees, Tree.no_trees, Tree.tree, Tree.Choices, Tree.otherwise, Tree.choice}
+use Rattle.batch_recipe.specs.{Conditions.holds, declared.condition.Condition.Condition, Tree.Tree, Tree.act, Tree.skip, Tree.seq, Tree.par, Tree.sel, Tree.loop, Tree.Trees, Tree.no_trees, Tree.tree, Tree.Choices, Tree.otherwise, Tree.choice}
 use Rattle.batch_model.specs.{Rest.Rest, Rest.Moment, Rest.ready, Rest.asking, Rest.open_act, Rest.live, Rest.freeing, Rest.in_seq, Rest.in_par, Rest.in_loop, Rest.done, Rest.Rests, Rest.no_rests, Rest.rest, Rest.is_done, Rest.all_done, Rest.joined, Rest.turning, Rest.reach, Rest.reach_first, Rest.reach_each, Rest.reach_chosen, Rest.turned, Rest.advance, Rest.advance_each, Rest.withdrawn, Rest.withdrawn_each, Settled.IsAdvanced, Settled.AreAdvanced}
 
 joined-advanced : (rs : Rests) → AreAdvanced rs → IsAdvanced (joined rs)
@@ -10,7 +10,7 @@ joined-advanced rs h = go (all_done rs) refl
     go true e = tt
     go false e = (e, h)
 
-turning-advanced : (n : ℕ) (c : Cond) (body : Tree) (r : Rest) → IsAdvanced r → IsAdvanced (turning n c body r)
+turning-advanced : (n : ℕ) (c : Condition) (body : Tree) (r : Rest) → IsAdvanced r → IsAdvanced (turning n c body r)
 turning-advanced n c body r h = go (is_done r) refl
   where
     go : (b : Bool) → is_done r ≡ b → IsAdvanced (elim b [ true ↦ done | false ↦ in_loop n c body r ])
@@ -49,7 +49,7 @@ mutual
   reach_chosen-advanced mo (otherwise c) = reach-advanced mo c
   reach_chosen-advanced mo (choice p c ch) = either-advanced (holds mo.values p) (reach mo c) (reach_chosen mo ch) (reach-advanced mo c) (reach_chosen-advanced mo ch)
 
-turned-advanced : (mo : Moment) (n : ℕ) (c : Cond) (body : Tree) (r : Rest) → IsAdvanced r → IsAdvanced (turned mo n c body r)
+turned-advanced : (mo : Moment) (n : ℕ) (c : Condition) (body : Tree) (r : Rest) → IsAdvanced r → IsAdvanced (turned mo n c body r)
 turned-advanced mo zero c body r h = turning-advanced 0 c body r h
 turned-advanced mo (suc n) c body r h = go (is_done r) refl
   where

@@ -1,7 +1,7 @@
 -- A unit procedure that holds a unit in advance is due until its chart is reached, and a due one has a move before it.
 use Rattle.std.proofs.Common.{◌≡◌, ◌⊎◌, refl, sym, ◌∙◌, ap, subst, ℕ, zero, suc, ◌+◌, ◌<◌, ◌≤◌, length, List, [], ◌∷◌, ◌++◌, Bool, true, false, Some, None, arith, inl, inr, append-nil}
 use Rattle.std.{specs.Prelude.Option, specs.Prelude.find, specs.Prelude.pred, specs.Prelude.option_map, proofs.lemmas.List.append_assoc}
-use Rattle.batch_recipe.specs.{Conditions.Name, Conditions.same_name, Conditions.holds, declared.condition.Cond.Cond, Following.Follower, Following.firsts, Following.firsts_of_each, Following.enter, Following.branch, Following.choice_at, Following.following_below, Following.follower, Levels.Level, Levels.is_procedure, Levels.in_procedure, Levels.in_unit_procedure, Levels.in_operation, Levels.below, Nodes.child, Tree.Place, Tree.Step, Tree.Task, Tree.runs, Tree.follows, Tree.Tree, Tree.act, Tree.skip, Tree.seq, Tree.par, Tree.sel, Tree.loop, Tree.Trees, Tree.no_trees, Tree.tree, Tree.Choices, Tree.otherwise, Tree.choice}
+use Rattle.batch_recipe.specs.{Conditions.Name, Conditions.same_name, Conditions.holds, declared.condition.Condition.Condition, Following.Follower, Following.firsts, Following.firsts_of_each, Following.enter, Following.branch, Following.choice_at, Following.following_below, Following.follower, Levels.Level, Levels.is_procedure, Levels.in_procedure, Levels.in_unit_procedure, Levels.in_operation, Levels.below, Nodes.child, Tree.Place, Tree.Step, Tree.Task, Tree.runs, Tree.follows, Tree.Tree, Tree.act, Tree.skip, Tree.seq, Tree.par, Tree.sel, Tree.loop, Tree.Trees, Tree.no_trees, Tree.tree, Tree.Choices, Tree.otherwise, Tree.choice}
 use Rattle.batch_model.{specs.Lists.Has, specs.Placed.IsPlaced, specs.Placed.ArePlaced, specs.Placed.IsChoicePlaced, specs.Rest.same_place, specs.Rest.Rest, specs.Rest.ready, specs.Rest.asking, specs.Rest.open_act, specs.Rest.live, specs.Rest.freeing, specs.Rest.in_seq, specs.Rest.in_par, specs.Rest.in_loop, specs.Rest.done, specs.Rest.Rests, specs.Rest.no_rests, specs.Rest.rest, specs.Rest.is_done, specs.Rest.all_done, specs.Rest.joined, specs.Rest.turning, specs.Rest.Moment, specs.Rest.reach, specs.Rest.reach_first, specs.Rest.reach_each, specs.Rest.continued, specs.Rest.turned, specs.Rest.advance, specs.Rest.advance_each, specs.Rest.acts, specs.Rest.acts_of_each, specs.Rest.place_of, specs.Rest.changed_at, specs.Rest.changed_in_each, specs.Settled.IsAdvanced, specs.Settled.AreAdvanced, specs.Standing.after_branch, specs.Standing.due_followers, specs.Standing.due_in_each, specs.Standing.IsAwaited, specs.Standing.IsRestOf, specs.Standing.IsBranch, specs.Standing.AreBranches, specs.Standing.IsChosen, proofs.Members.Has-left, proofs.Members.Has-right, proofs.Members.Has-split, proofs.Members.find-Has}
 use Rattle.batch_step_laws.proofs.{WorkAfterChange.to_same_place, ListsOverActs.no-acts_of_done, ListsOverActs.no-acts_of_all_done}
 
@@ -21,7 +21,7 @@ in_order-stands r after cs p h = go (is_done r) refl
     go true e = absurd (none-stand (acts r) p (no-acts_of_done r e) h)
     go false e = h
 
-turning-stands : (n : ℕ) (c : Cond) (body : Tree) (r : Rest) (p : Place) → StandsAt (acts r) p → StandsAt (acts (turning n c body r)) p
+turning-stands : (n : ℕ) (c : Condition) (body : Tree) (r : Rest) (p : Place) → StandsAt (acts r) p → StandsAt (acts (turning n c body r)) p
 turning-stands n c body r p h = go (is_done r) refl
   where
     go : (b : Bool) → is_done r ≡ b → StandsAt (acts (elim b [ true ↦ done | false ↦ in_loop n c body r ])) p
@@ -95,7 +95,7 @@ module _ (mo : Moment) where
       go false e = h
       go true e = elim (subst (λ z. IsNext level (after_branch level next cs) z f) (done-is r e) h) [ inl k ↦ absurd k.1 | inr k ↦ at_end cs k ]
 
-  turning-next : (level : Level) (next : List Follower) (n : ℕ) (c : Cond) (body : Tree) (f : Follower) (r after : Rest)
+  turning-next : (level : Level) (next : List Follower) (n : ℕ) (c : Condition) (body : Tree) (f : Follower) (r after : Rest)
       → IsNext level [] r f → IsNext level next (elim (is_done r) [ true ↦ after | false ↦ in_loop n c body r ]) f
   turning-next level next n c body f r after h = go (is_done r) refl
     where
@@ -103,7 +103,7 @@ module _ (mo : Moment) where
       go false e = h
       go true e = elim (subst (λ z. IsNext level [] z f) (done-is r e) h) [ inl k ↦ absurd k.1 | inr k ↦ absurd k ]
 
-  turned-next : (level : Level) (next : List Follower) (n : ℕ) (c : Cond) (body : Tree) (f : Follower) (r : Rest)
+  turned-next : (level : Level) (next : List Follower) (n : ℕ) (c : Condition) (body : Tree) (f : Follower) (r : Rest)
       → IsNext level [] r f → IsNext level next (turned mo n c body r) f
   turned-next level next zero c body f r h = turning-next level next 0 c body f r done h
   turned-next level next (suc n) c body f r h =

@@ -1,7 +1,7 @@
 -- The list that is gathered over the acts of a rest stays the same when the rest advances.
 use Rattle.std.proofs.Common.{arith, ◌≡◌, refl, sym, ◌∙◌, ap, ℕ, zero, suc, pred, List, [], ◌∷◌, ◌++◌, Bool, true, false}
 use Rattle.std.{specs.Prelude.flat_map, proofs.lemmas.Grind.flat_map-append, proofs.lemmas.Bool.and_parts}
-use Rattle.batch_recipe.specs.{Conditions.holds, declared.condition.Cond.Cond, Tree.Step, Tree.Tree, Tree.act, Tree.skip, Tree.seq, Tree.par, Tree.sel, Tree.loop, Tree.Task, Tree.Trees, Tree.no_trees, Tree.tree, Tree.Choices, Tree.otherwise, Tree.choice}
+use Rattle.batch_recipe.specs.{Conditions.holds, declared.condition.Condition.Condition, Tree.Step, Tree.Tree, Tree.act, Tree.skip, Tree.seq, Tree.par, Tree.sel, Tree.loop, Tree.Task, Tree.Trees, Tree.no_trees, Tree.tree, Tree.Choices, Tree.otherwise, Tree.choice}
 use Rattle.batch_model.specs.{Rest.Rest, Rest.Moment, Rest.held_early, Rest.ready, Rest.asking, Rest.open_act, Rest.live, Rest.freeing, Rest.in_seq, Rest.in_par, Rest.in_loop, Rest.done, Rest.Rests, Rest.no_rests, Rest.rest, Rest.is_done, Rest.all_done, Rest.joined, Rest.turning, Rest.reach, Rest.reach_first, Rest.reach_each, Rest.reach_chosen, Rest.turned, Rest.advance, Rest.advance_each, Rest.acts, Rest.acts_of_each, Lists.Each, Standing.IsUnbegun, Plant.held_by, Plant.held_in, Plant.phase_states}
 
 pub no-acts_of_done : (r : Rest) → is_done r ≡ true → acts r ≡ []
@@ -33,7 +33,7 @@ module _ {X : Type 0} (g : Rest → List X) (mo : Moment) (new : (s : Step) (w :
       go false e = refl
       go true e = ap (flat_map g) (sym (no-acts_of_all_done rs e))
 
-  turning-gathered : (n : ℕ) (c : Cond) (body : Tree) (r : Rest) → gathered (turning n c body r) ≡ gathered r
+  turning-gathered : (n : ℕ) (c : Condition) (body : Tree) (r : Rest) → gathered (turning n c body r) ≡ gathered r
   turning-gathered n c body r = go (is_done r) refl
     where
       go : (b : Bool) → is_done r ≡ b → gathered (elim b [ true ↦ done | false ↦ in_loop n c body r ]) ≡ gathered r
@@ -80,7 +80,7 @@ module _ {X : Type 0} (g : Rest → List X) (mo : Moment) (new : (s : Step) (w :
     reach_chosen-gathered (otherwise c) = reach-gathered c
     reach_chosen-gathered (choice p c ch) = either-gathered (holds mo.values p) (reach mo c) (reach_chosen mo ch) (reach-gathered c) (reach_chosen-gathered ch)
 
-  turned-gathered : (n : ℕ) (c : Cond) (body : Tree) (r : Rest) → gathered (turned mo n c body r) ≡ gathered r
+  turned-gathered : (n : ℕ) (c : Condition) (body : Tree) (r : Rest) → gathered (turned mo n c body r) ≡ gathered r
   turned-gathered zero c body r = turning-gathered 0 c body r
   turned-gathered (suc n) c body r = go (is_done r) refl
     where

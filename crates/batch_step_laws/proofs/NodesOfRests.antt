@@ -1,6 +1,6 @@
 -- Whatever a rest reaches stands at its node of the expanded tree.
 use Rattle.std.proofs.Common.{◌≡◌, refl, sym, subst, ℕ, zero, suc, pred, Bool, true, false, arith, inl, inr, ◌≤◌, List, [], ◌∷◌, length}
-use Rattle.batch_recipe.specs.{Conditions.holds, declared.condition.Cond.Cond, declared.need.Need.Need, Tree.Place, Tree.Step, Tree.Tree, Tree.act, Tree.skip, Tree.seq, Tree.par, Tree.sel, Tree.loop, Tree.Task, Tree.runs, Tree.follows, Tree.Trees, Tree.no_trees, Tree.tree, Tree.Choices, Tree.otherwise, Tree.choice}
+use Rattle.batch_recipe.specs.{Conditions.holds, declared.condition.Condition.Condition, declared.need.Need.Need, Tree.Place, Tree.Step, Tree.Tree, Tree.act, Tree.skip, Tree.seq, Tree.par, Tree.sel, Tree.loop, Tree.Task, Tree.runs, Tree.follows, Tree.Trees, Tree.no_trees, Tree.tree, Tree.Choices, Tree.otherwise, Tree.choice}
 use Rattle.std.specs.{Prelude.take, List.list_any}
 use Rattle.batch_model.specs.{Rest.same_place, Rest.Rest, Rest.Moment, Rest.held_early, Rest.ready, Rest.asking, Rest.open_act, Rest.live, Rest.freeing, Rest.in_seq, Rest.in_par, Rest.in_loop, Rest.done, Rest.Rests, Rest.no_rests, Rest.rest, Rest.is_done, Rest.all_done, Rest.joined, Rest.turning, Rest.reach, Rest.reach_first, Rest.reach_each, Rest.reach_chosen, Rest.continued, Rest.turned, Rest.advance, Rest.advance_each, Standing.IsRestOf, Standing.IsRestBelow, Standing.IsBranch, Standing.AreBranches, Standing.IsChosen}
 
@@ -25,7 +25,7 @@ joined-IsRestOf cs rs h = go (all_done rs)
     go true = tt
     go false = h
 
-turning-IsRestOf : (n m : ℕ) (c : Cond) (body : Tree) (r : Rest) → m ≤ n → IsRestOf body r → IsRestOf (loop n c body) (turning m c body r)
+turning-IsRestOf : (n m : ℕ) (c : Condition) (body : Tree) (r : Rest) → m ≤ n → IsRestOf body r → IsRestOf (loop n c body) (turning m c body r)
 turning-IsRestOf n m c body r lt h = go (is_done r)
   where
     go : (b : Bool) → IsRestOf (loop n c body) (elim b [ true ↦ done | false ↦ in_loop m c body r ])
@@ -46,7 +46,7 @@ first-IsRestOf c cs r after h k = go (is_done r)
     go true = later c cs after k
     go false = inl (h, refl)
 
-either-IsChosen : (p : Cond) (c : Tree) (ch : Choices) (b : Bool) (q r : Rest) → IsRestOf c q → IsChosen ch r → IsChosen (choice p c ch) (elim b [ true ↦ q | false ↦ r ])
+either-IsChosen : (p : Condition) (c : Tree) (ch : Choices) (b : Bool) (q r : Rest) → IsRestOf c q → IsChosen ch r → IsChosen (choice p c ch) (elim b [ true ↦ q | false ↦ r ])
 either-IsChosen p c ch true q r h k = inl h
 either-IsChosen p c ch false q r h k = inr k
 
@@ -84,12 +84,12 @@ mutual
   reach_chosen-IsChosen mo (choice p c ch) =
       either-IsChosen p c ch (holds mo.values p) (reach mo c) (reach_chosen mo ch) (reach-IsRestOf mo c) (reach_chosen-IsChosen mo ch)
 
-again-IsRestOf : (mo : Moment) (n m : ℕ) (c : Cond) (body : Tree) → suc m ≤ n → (b : Bool)
+again-IsRestOf : (mo : Moment) (n m : ℕ) (c : Condition) (body : Tree) → suc m ≤ n → (b : Bool)
     → IsRestOf (loop n c body) (elim b [ true ↦ done | false ↦ turning m c body (reach mo body) ])
 again-IsRestOf mo n m c body lt true = tt
 again-IsRestOf mo n m c body lt false = turning-IsRestOf n m c body (reach mo body) (omega arith) (reach-IsRestOf mo body)
 
-turned-IsRestOf : (mo : Moment) (n m : ℕ) (c : Cond) (body : Tree) (r : Rest) → m ≤ n → IsRestOf body r → IsRestOf (loop n c body) (turned mo m c body r)
+turned-IsRestOf : (mo : Moment) (n m : ℕ) (c : Condition) (body : Tree) (r : Rest) → m ≤ n → IsRestOf body r → IsRestOf (loop n c body) (turned mo m c body r)
 turned-IsRestOf mo n zero c body r lt h = turning-IsRestOf n 0 c body r lt h
 turned-IsRestOf mo n (suc m) c body r lt h = go (is_done r)
   where
@@ -110,7 +110,7 @@ continued-here mo c cs r ds h e = go (is_done r)
     go true = later c cs (reach_first mo ds) after
     go false = inl (h, e)
 
-subst₂-loop : (mo : Moment) (n m : ℕ) (c d : Cond) (body b : Tree) (r : Rest) → d ≡ c → b ≡ body
+subst₂-loop : (mo : Moment) (n m : ℕ) (c d : Condition) (body b : Tree) (r : Rest) → d ≡ c → b ≡ body
     → IsRestOf (loop n c body) (turned mo m c body r) → IsRestOf (loop n c body) (turned mo m d b r)
 subst₂-loop mo n m c d body b r e f h =
     subst (λ x. IsRestOf (loop n c body) (turned mo m x b r)) (sym e) (subst (λ x. IsRestOf (loop n c body) (turned mo m c x r)) (sym f) h)

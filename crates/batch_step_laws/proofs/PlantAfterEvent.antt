@@ -1,7 +1,7 @@
 -- A plant that stands does so after each event.
 use Rattle.std.proofs.Common.{arith, ◌≡◌, refl, sym, ◌∙◌, ap, subst, inl, inr, ◌&&◌, ℕ, List, [], ◌∷◌, Bool, true, false, Some, None}
 use Rattle.std.specs.{Prelude.Option, Prelude.find, Prelude.not, Prelude.nat_eq, Option.option_or}
-use Rattle.batch_matrix.specs.{declared.state.State.State, declared.state.State.TheVariants.Idle, declared.state.State.TheVariants.Holding, declared.command.Command.Command, declared.report.Report.Report, declared.report.PhaseEnd.PhaseEnd, declared.command.Command.TheVariants.Hold, Matrix.same_state, Matrix.same_report, Matrix.accepts, Matrix.target, Matrix.after_report}
+use Rattle.batch_matrix.specs.{declared.state.State.State, declared.state.State.TheVariants.Idle, declared.state.State.TheVariants.Holding, declared.command.Command.Command, declared.report.Report.Report, declared.report.ReportOutcome.ReportOutcome, declared.command.Command.TheVariants.Hold, Matrix.same_state, Matrix.same_report, Matrix.accepts, Matrix.target, Matrix.after_report}
 use Rattle.batch_recipe.specs.{Conditions.Name, Conditions.ValueList, Conditions.same_name, Tree.Place, Values.with_values, Values.with_outputs_zero, Values.are_outputs, Values.left_out}
 use Rattle.batch_model.{specs.Lists.Has, specs.Lists.Each, specs.Rest.Rest, specs.Rest.ready, specs.Rest.asking, specs.Rest.open_act, specs.Rest.live, specs.Rest.freeing, specs.Rest.in_seq, specs.Rest.in_par, specs.Rest.in_loop, specs.Rest.done, specs.Rest.Moment, specs.Rest.acts, specs.Rest.withdrawn, specs.Plant.Formula, specs.Plant.size_out_of_range, specs.Plant.value_out_of_range, specs.Plant.scaled, specs.Plant.Recipe, specs.Plant.Setup, specs.Plant.InAdvance, specs.Plant.Batch, specs.Plant.Share, specs.Plant.Plant, specs.Plant.batch_at, specs.Plant.in_batch, specs.Plant.Master, specs.Moves.Move, specs.Moves.next, specs.Events.Event, specs.Events.create, specs.Events.order, specs.Events.remove, specs.Events.report, specs.Events.ordered, specs.Events.removed, specs.Events.refused, specs.Events.unknown_recipe, specs.Events.bad_binding, specs.Events.binding, specs.Events.is_binding, specs.Events.bound_by, specs.Events.creating_for, specs.Events.roles_told, specs.Events.unknown_batch, specs.Events.command_not_accepted, specs.Events.no_live_phase, specs.Events.report_not_expected, specs.Events.bad_output, specs.Events.owed, specs.Events.accepting, specs.Events.full, specs.Events.not_idle, specs.Events.moves_pending, specs.Events.Answer, specs.Events.is_full, specs.Events.new_batch, specs.Events.with_batch, specs.Events.creating, specs.Events.reset, specs.Events.ends_asks, specs.Events.commanded, specs.Events.lines_under, specs.Events.ordering, specs.Events.without_batch, specs.Events.removing, specs.Events.LivePhase, specs.Events.live_in, specs.Events.live_phase, specs.Events.phase_after, specs.Events.batch_state_after, specs.Events.outputs_of, specs.Events.batch_reported, specs.Events.reporting, specs.Events.judged, specs.Events.react, specs.Standing.is_resting, specs.Standing.IsAwaited, specs.Standing.IsControl, specs.Standing.HasPlacedTrees, specs.Standing.IsStandingBatch, specs.Standing.IsStanding, proofs.Members.Each-append, proofs.Members.Each-filter, proofs.Members.find-Has}
 use Rattle.batch_step_laws.proofs.{AdvancedRests.reach-advanced, AdvancedRests.withdrawn-advanced, NodesOfRests.reach-IsRestOf, RestsAfterChange.withdrawn-IsRestOf, RestsAfterChange.phase_after-remains, ListsOverActs.reach-unbegun, Batches.one_batch, Batches.Each-only, Batches.AreNumbered-only, Batches.AreNumbered-new, Batches.AreNumbered-filter, PlantAfterMove.in_act-stands, HoldersInAdvance.HasBegun, HoldersInAdvance.begun-busy, HoldersInAdvance.settled-none}
@@ -91,7 +91,7 @@ live_phase-found (b ∷ bs) unit name l e = go (live_in b unit name (acts b.rest
         let found = live_in-found b unit name (acts b.rest) l (h ∙ f) in
         (inl (sym found.0), subst (λ (z : Batch). HasBegun (acts z.rest)) (sym found.0) found.1)
 
-reported-stands : (c : Setup) (word : Report) (outputs : ValueList) (p : Place) (e : PhaseEnd) (b : Batch) → is_resting b.state ≡ false → IsStandingBatch c b → b.in_advance ≡ []
+reported-stands : (c : Setup) (word : Report) (outputs : ValueList) (p : Place) (e : ReportOutcome) (b : Batch) → is_resting b.state ≡ false → IsStandingBatch c b → b.in_advance ≡ []
     → IsStandingBatch c (batch_reported word outputs p e b)
 reported-stands c word outputs p e b busy k none =
     in_act-stands c (record b { values = with_values outputs b.values; state = batch_state_after word b.state }) p (phase_after e)
@@ -173,17 +173,17 @@ module _ (c : Setup) (s : Plant) (k : IsStanding c s) (none : (b : Batch) → Ha
       busy b j e h =
           begun-busy c b h (subst (λ (z : Batch). HasBegun (acts z.rest)) (one_batch s.next_number s.batches l.batch b k.numbers i j (sym e)) has)
 
-      accepted : (e : PhaseEnd) (o : Option Name) → Stands (accepting s unit name word outputs l e o)
+      accepted : (e : ReportOutcome) (o : Option Name) → Stands (accepting s unit name word outputs l e o)
       accepted e (Some output) = k
       accepted e None = in_batch-stands l.batch.number (batch_reported word outputs l.place e) s.line
           (λ b j n h. reported-stands c word outputs l.place e b (busy b j n h) h) (λ b. refl)
 
-      taken : (e : PhaseEnd) (t : Bool) → Stands
+      taken : (e : ReportOutcome) (t : Bool) → Stands
           (elim t [ false ↦ (refused bad_output, s) | true ↦ accepting s unit name word outputs l e (left_out (owed l.state word l.phase.reports) outputs) ])
       taken e false = k
       taken e true = accepted e (left_out (owed l.state word l.phase.reports) outputs)
 
-      go : (o : Option PhaseEnd) → Stands
+      go : (o : Option ReportOutcome) → Stands
           (elim o [
             | None ↦ (refused (report_not_expected l.state), s)
             | Some e ↦

@@ -1,7 +1,7 @@
 -- A refused event leaves the plant as it was, and some refusals come only if they have a cause.
 use Rattle.std.proofs.Common.{◌≡◌, ◌⊎◌, refl, sym, subst, ℕ, ◌<◌, ◌≤◌, arith, length, Bool, true, false, ◌||◌, ◌&&◌, ◌++◌, nat_le, nat_lt, Some, None, inl, inr, List, [], ◌∷◌, ap, cond}
 use Rattle.std.specs.{Prelude.Option, Prelude.find, Prelude.not, Prelude.⊤, List.list_all}
-use Rattle.batch_matrix.specs.{declared.state.State.TheVariants.Idle, declared.command.Command.Command, declared.report.Report.Report, declared.report.PhaseEnd.PhaseEnd, Matrix.same_state, Matrix.same_report, Matrix.accepts, Matrix.target, Matrix.after_report}
+use Rattle.batch_matrix.specs.{declared.state.State.TheVariants.Idle, declared.command.Command.Command, declared.report.Report.Report, declared.report.ReportOutcome.ReportOutcome, Matrix.same_state, Matrix.same_report, Matrix.accepts, Matrix.target, Matrix.after_report}
 use Rattle.batch_recipe.specs.{Conditions.Name, Conditions.ValueList, Conditions.same_name, Values.are_outputs, Values.have_output, Values.left_out}
 use Rattle.batch_model.specs.{Plant.Formula, Plant.size_out_of_range, Plant.value_out_of_range, Plant.scaled, Plant.Recipe, Plant.Setup, Plant.Batch, Plant.Plant, Plant.batch_at, Plant.in_batch, Plant.Master, Moves.Move, Moves.is_stopping, Moves.next, Events.Event, Events.create, Events.order, Events.remove, Events.report, Events.Reply, Events.created, Events.ordered, Events.removed, Events.refused, Events.Refusal, Events.unknown_recipe, Events.bad_binding, Events.binding, Events.is_binding, Events.bound_by, Events.creating_for, Events.roles_told, Events.unknown_batch, Events.command_not_accepted, Events.no_live_phase, Events.report_not_expected, Events.bad_output, Events.output_left_out, Events.owed, Events.accepting, Events.full, Events.not_idle, Events.moves_pending, Events.no_memory, Events.Answer, Events.is_full, Events.creating, Events.commanded, Events.lines_under, Events.ordering, Events.without_batch, Events.removing, Events.LivePhase, Events.live_phase, Events.outputs_of, Events.reporting, Events.judged, Events.react, Runs.IsCreated, Runs.Reacts, declared.limits.TheConstants.LAST_NUMBER}
 use Rattle.batch_step_laws.specs.Laws.{IsCreate, IsFirstLeftOut, HasCause}
@@ -115,16 +115,16 @@ module _ (c : Setup) (s : Plant) where
       → Just e (reporting s unit name word outputs l)
   reporting-just e unit name word outputs l leaves = go (after_report l.state word)
     where
-      accepted : (end : PhaseEnd) (o : Option Name) → left_out (owed l.state word l.phase.reports) outputs ≡ o → Just e (accepting s unit name word outputs l end o)
+      accepted : (end : ReportOutcome) (o : Option Name) → left_out (owed l.state word l.phase.reports) outputs ≡ o → Just e (accepting s unit name word outputs l end o)
       accepted end (Some output) h = (refl, leaves output h)
       accepted end None h = tt
 
-      taken : (end : PhaseEnd) (t : Bool) → Just e
+      taken : (end : ReportOutcome) (t : Bool) → Just e
           (elim t [ false ↦ (refused bad_output, s) | true ↦ accepting s unit name word outputs l end (left_out (owed l.state word l.phase.reports) outputs) ])
       taken end false = (refl, tt)
       taken end true = accepted end (left_out (owed l.state word l.phase.reports) outputs) refl
 
-      go : (o : Option PhaseEnd) → Just e
+      go : (o : Option ReportOutcome) → Just e
           (elim o [
             | None ↦ (refused (report_not_expected l.state), s)
             | Some end ↦

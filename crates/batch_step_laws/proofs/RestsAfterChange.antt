@@ -1,6 +1,6 @@
 -- A change of an act that can remain at its node leaves a rest that can remain of its chart.
 use Rattle.std.proofs.Common.{◌≡◌, refl, sym, subst, List, zero, suc, pred, ℕ, Bool, true, false, arith, inl, inr, length, ◌≤◌}
-use Rattle.batch_matrix.specs.declared.{state.State.State, command.Command.Command, report.PhaseEnd.PhaseEnd, report.PhaseEnd.TheVariants.Ended, report.PhaseEnd.TheVariants.Now, report.PhaseEnd.TheVariants.Same}
+use Rattle.batch_matrix.specs.declared.{state.State.State, command.Command.Command, report.ReportOutcome.ReportOutcome, report.ReportOutcome.TheVariants.Ended, report.ReportOutcome.TheVariants.Now, report.ReportOutcome.TheVariants.Same}
 use Rattle.batch_recipe.specs.Tree.{Place, Step, Task, runs, follows, Tree, act, seq, par, sel, loop, Trees, no_trees, tree, Choices, otherwise, choice}
 use Rattle.batch_model.{specs.Lists.Has, specs.Rest.same_place, specs.Rest.Rest, specs.Rest.Moment, specs.Rest.ready, specs.Rest.asking, specs.Rest.open_act, specs.Rest.live, specs.Rest.freeing, specs.Rest.in_seq, specs.Rest.in_par, specs.Rest.in_loop, specs.Rest.done, specs.Rest.Rests, specs.Rest.no_rests, specs.Rest.rest, specs.Rest.acts, specs.Rest.acts_of_each, specs.Rest.reach, specs.Rest.changed_at, specs.Rest.changed_in_each, specs.Rest.withdrawn, specs.Rest.withdrawn_each, specs.Rest.place_of, specs.Moves.freed, specs.Moves.sent, specs.Moves.released, specs.Moves.begun, specs.Moves.ended, specs.Events.phase_after, specs.Standing.IsRestOf, specs.Standing.IsRestBelow, specs.Standing.IsBranch, specs.Standing.AreBranches, specs.Standing.IsChosen, proofs.Members.Has-left, proofs.Members.Has-right}
 use Rattle.batch_step_laws.proofs.{WorkAfterChange.to_same_place, NodesOfRests.reach-IsRestOf}
@@ -51,7 +51,7 @@ now-remains y (freeing t k) s w h = h
 now-remains y done s w h = tt
 now-remains y a s w h = absurd (grind arith)
 
-pub phase_after-remains : (e : PhaseEnd) (a : Rest) → RemainsAs a (phase_after e a)
+pub phase_after-remains : (e : ReportOutcome) (a : Rest) → RemainsAs a (phase_after e a)
 phase_after-remains Ended a = ended-remains a
 phase_after-remains (Now y) a = now-remains y a
 phase_after-remains Same a = λ s w h. h

@@ -1,7 +1,7 @@
 -- The work left doesn't grow when a rest advances.
 use Rattle.std.proofs.Common.{◌≡◌, refl, ap, [], ℕ, suc, pred, Bool, true, false, arith, ◌≤◌, ◌+◌, ◌-◌, ◌*◌, length}
 use Rattle.batch_matrix.specs.declared.state.State.{State}
-use Rattle.batch_recipe.specs.{Conditions.holds, declared.condition.Cond.Cond, Tree.Tree, Tree.act, Tree.skip, Tree.seq, Tree.par, Tree.sel, Tree.loop, Tree.Trees, Tree.no_trees, Tree.tree, Tree.Choices, Tree.otherwise, Tree.choice}
+use Rattle.batch_recipe.specs.{Conditions.holds, declared.condition.Condition.Condition, Tree.Tree, Tree.act, Tree.skip, Tree.seq, Tree.par, Tree.sel, Tree.loop, Tree.Trees, Tree.no_trees, Tree.tree, Tree.Choices, Tree.otherwise, Tree.choice}
 use Rattle.batch_model.specs.{Rest.Rest, Rest.Moment, Rest.held_early, Rest.open_act, Rest.in_seq, Rest.in_par, Rest.in_loop, Rest.done, Rest.Rests, Rest.no_rests, Rest.rest, Rest.is_done, Rest.joined, Rest.turning, Rest.reach, Rest.reach_first, Rest.reach_each, Rest.reach_chosen, Rest.turned, Rest.advance, Rest.advance_each, Runs.toil, Runs.toil_of_work, Runs.toil_of_each, Runs.toil_of_choices, Runs.goes_on, Runs.ahead, Runs.toil_left, Runs.toil_left_in_each}
 use Rattle.batch_step_laws.proofs.NodesOfRests.{early-within}
 
@@ -27,7 +27,7 @@ turn-ahead x n t = omega (arith, ahead-sum x t (n * t), ahead-le x (t + n * t) (
 joined-toil : (x : State) (rs : Rests) → toil_left x (joined rs) ≤ toil_left_in_each x rs
 joined-toil x rs = grind arith
 
-turning-toil : (x : State) (n : ℕ) (c : Cond) (body : Tree) (r : Rest) → toil_left x (turning n c body r) ≤ toil_left x r + ahead x (n * toil body)
+turning-toil : (x : State) (n : ℕ) (c : Condition) (body : Tree) (r : Rest) → toil_left x (turning n c body r) ≤ toil_left x r + ahead x (n * toil body)
 turning-toil x n c body r = grind arith
 
 in_order-toil : (x : State) (r after : Rest) (cs : Trees) → toil_left x after ≤ ahead x (toil_of_each cs)
@@ -84,11 +84,11 @@ module _ (x : State) (mo : Moment) (calm : goes_on x ≡ false → mo.early ≡ 
 
   -- Advancing
 
-  again-toil : (n : ℕ) (c : Cond) (body : Tree) (b : Bool)
+  again-toil : (n : ℕ) (c : Condition) (body : Tree) (b : Bool)
       → toil_left x (elim b [ true ↦ done | false ↦ turning n c body (reach mo body) ]) ≤ ahead x (suc n * toil body)
   again-toil n c body b = grind (arith, turning-toil, reach-toil, turn-ahead)
 
-  turned-toil : (n : ℕ) (c : Cond) (body : Tree) (r : Rest) → toil_left x (turned mo n c body r) ≤ toil_left x r + ahead x (n * toil body)
+  turned-toil : (n : ℕ) (c : Condition) (body : Tree) (r : Rest) → toil_left x (turned mo n c body r) ≤ toil_left x r + ahead x (n * toil body)
   turned-toil n c body r = grind (arith, turning-toil, again-toil)
 
   mutual

@@ -2,7 +2,7 @@
 use Rattle.std.proofs.Common.{arith, ◌≡◌, ◌⊎◌, ◌≤◌, ℕ, Bool, true, false, List, inl, inr, refl, sym, subst, ◌∙◌}
 use Rattle.std.specs.{Io.KnownBytes.Appends, Prelude.String, Prelude.if◌then◌else◌, Prelude.string_bytes, List.list_any, Global.Global}
 use Rattle.clap.specs.{Kinds.IsAmong, Walk.Text, declared.error.kind.ErrorKind.ErrorKind}
-use Rattle.batch_cli.specs.{declared.comments.Comments.Comments, CommandLine.Request, CommandLine.Source, CommandLine.demo, CommandLine.faults_of, CommandLine.keep, CommandLine.serve}
+use Rattle.batch_cli.specs.{declared.comments.Comments.Comments, CommandLine.Request, CommandLine.SetSource, CommandLine.demo, CommandLine.faults_of, CommandLine.keep, CommandLine.serve}
 use Rattle.batch_verify.specs.ClearedSet.{ClearedSet}
 use Rattle.batch_verdicts.{specs.Judging.is_for_memory, specs.Judging.status_of, specs.Reading.Gives, specs.Requests.Halts, specs.Requests.HaltsDemo, specs.Requests.IsDemoSet, specs.Requests.IsSetOf, specs.Running.AskFor, specs.Running.IsAnnounced, specs.Running.IsDone, specs.Running.IsExplained, specs.Running.IsPrinted, specs.Running.IsRun, specs.Running.IsUnwritten, specs.Running.Stream, specs.Running.ask_quiet, specs.Running.memory_status, specs.Running.success_status, specs.Running.commands, specs.Running.status_of_every, specs.Running.serves, specs.Running.reads, specs.Running.serves_desks, specs.Running.audits, specs.Running.plants, specs.Running.halts, specs.Running.judges, specs.Running.explains, specs.Running.helps, specs.Running.misuses, specs.Running.starves, specs.Running.keeps, specs.Running.writes, specs.Running.remarks, specs.Running.draws, specs.Saying.IsWarned, specs.Statuses.AreCodesTold, specs.Statuses.IsSuccess, specs.Statuses.NoCommandServes, specs.Statuses.ServesClearedSets, specs.Statuses.SuccessIsTold, proofs.WarningEffects.verdict_more, proofs.WarningEffects.warned_kept, specs.declared.course.Course.Course, specs.declared.course.Course.TheVariants.Ends, specs.declared.course.Course.TheVariants.Serves, specs.declared.course.Course.TheVariants.Keeps, specs.Digested.AreDigested, specs.declared.digested.Digested.Digested, specs.declared.refusal.DocumentRefusal.DocumentRefusal, specs.declared.refusal.Halt.Halt, specs.declared.refusal.RefusalKind.RefusalKind, specs.declared.refusal.RefusalKind.TheVariants.Fault, specs.declared.refusal.RefusalKind.TheVariants.OutOfMemory}
 use Rattle.batch_verdicts.specs.declared.refusal.Halt.TheVariants as halt
@@ -92,7 +92,7 @@ success_is_told gives words output errors request asked came = told_success give
 
 -- the set that was to be served, with nothing written before
 pub record IsServing (gives : Gives) (request : Request) (set : ClearedSet) (output errors : Stream) : Type 0 where
-  pub source : Source
+  pub source : SetSource
   pub asked : request ≡ serve source
   pub is_set : IsSetOf gives source set
   pub unwritten : IsUnwritten output
@@ -159,7 +159,7 @@ done_keeping gives request quiet output errors digested hushed journal comments 
 
 served_set : (gives : Gives) (words : List Text) (output errors : Stream) (request : Request) (set : ClearedSet) (quiet : Bool) (course : Course)
     → AskFor words request → IsRun gives words output errors course → course ≡ Serves set quiet
-    → (source : Source) × (request ≡ serve source) × IsSetOf gives source set × (quiet ≡ ask_quiet words)
+    → (source : SetSource) × (request ≡ serve source) × IsSetOf gives source set × (quiet ≡ ask_quiet words)
 served_set gives words output errors request set quiet _ asked (commands other course asked2 came) is =
     let (serving, hushed) = done_serving gives other (ask_quiet words) output errors set quiet course came is in
     (serving.source, same_request words request other asked asked2 ∙ serving.asked, serving.is_set, hushed)

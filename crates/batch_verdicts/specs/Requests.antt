@@ -1,7 +1,7 @@
 -- trusted: the outcome of a request: the printed text, the set that is to be served, or the reason why there is none.
 use Rattle.std.specs.Prelude.{◌≡◌, List, ℕ, [], ◌∷◌}
 use Rattle.batch_verify.specs.ClearedSet.{ClearedSet}
-use Rattle.batch_cli.specs.CommandLine.{Judgement, check, draw, verify, Source, demo, documents, Request, judge, serve, tell, audit, plant, explain, show, keep, write, remark, picture, serve_desks}
+use Rattle.batch_cli.specs.CommandLine.{Judgement, check, draw, verify, SetSource, demo, documents, Request, judge, serve, tell, audit, plant, explain, show, keep, write, remark, picture, serve_desks}
 use Rattle.batch_verdicts.specs.DemoDocuments.{demo_text}
 use Rattle.batch_verdicts.specs.DeskSets.{HaltsDesks}
 use Rattle.batch_verdicts.specs.Every.{HaltsChecking, HaltsDrawing}
@@ -30,7 +30,7 @@ IsVerdictText gives warns (verify cell certificate recipes) text = VerifiesDocum
 IsVerdictText gives warns (show cell recipes) text = ShowsDocuments gives cell recipes text × warns []
 
 -- the set that is to be served, or whose plant is to be run: the demo's, or that of the documents, cleared by their certificate
-abbrev pub IsSetOf : Gives → Source → ClearedSet → Type 0
+abbrev pub IsSetOf : Gives → SetSource → ClearedSet → Type 0
 IsSetOf gives demo set = IsDemoSet set
 IsSetOf gives (documents cell certificate recipes) set = AreCleared gives cell certificate recipes set
 
@@ -42,7 +42,7 @@ HaltsJudgement gives warns (draw all cell recipes) h = HaltsDrawing all gives wa
 HaltsJudgement gives warns (verify cell certificate recipes) h = HaltsVerifying gives warns cell certificate recipes h
 HaltsJudgement gives warns (show cell recipes) h = HaltsAtDocuments gives cell recipes h × warns []
 
-abbrev pub HaltsSource : Gives → Source → Halt → Type 0
+abbrev pub HaltsSource : Gives → SetSource → Halt → Type 0
 HaltsSource gives demo h = HaltsDemo h
 HaltsSource gives (documents cell certificate recipes) h = HaltsClearing gives cell certificate recipes h
 

@@ -8,7 +8,7 @@ use Rattle.clap.specs.Walk.{Text}
 use Rattle.clap.specs.Words.{subcommand_of}
 use Rattle.clap.specs.declared.error.kind.ErrorKind.{ErrorKind}
 use Rattle.batch_messages.specs.Explaining.{HaveNoCode, TellsCodes}
-use Rattle.batch_cli.specs.CommandLine.{IsShown, Judgement, Request, Source, request_or_demo, asks_quiet, audit, explain, judge, plant, program_app, serve, serve_desks, source_of, tell, keep, write, faults_of, remark, picture}
+use Rattle.batch_cli.specs.CommandLine.{IsShown, Judgement, Request, SetSource, request_or_demo, asks_quiet, audit, explain, judge, plant, program_app, serve, serve_desks, source_of, tell, keep, write, faults_of, remark, picture}
 use Rattle.batch_verdicts.specs.DeskSets.{AreDesksCleared}
 use Rattle.batch_verdicts.specs.Digested.{AreDigested}
 use Rattle.batch_verdicts.specs.Judging.{is_for_memory, status_of}
@@ -135,11 +135,11 @@ pub data IsDone (gives : Gives) (request : Request) (quiet : Bool) (output error
   writes : (judgement : Judgement) (path text : String Global)
       → request ≡ write (string_bytes path) judgement → IsVerdictText gives (IsWarned quiet errors.before errors.after) judgement (string_bytes text)
       → IsUnwritten output → IsDone gives request quiet output errors (Writes path text)
-  serves : (source : Source) (set : ClearedSet)
+  serves : (source : SetSource) (set : ClearedSet)
       → request ≡ serve source → IsSetOf gives source set → IsUnwritten output → IsUnwritten errors
       → IsDone gives request quiet output errors (Serves set quiet)
   -- serving with comments in the record
-  remarks : (source : Source) (set : ClearedSet) (comments : Comments)
+  remarks : (source : SetSource) (set : ClearedSet) (comments : Comments)
       → request ≡ remark source comments.echo comments.times → IsSetOf gives source set → IsUnwritten output → IsUnwritten errors
       → IsDone gives request quiet output errors (Remarks set quiet comments)
   -- serving over a journal at this path, which names the set by the digits of its documents
@@ -160,7 +160,7 @@ pub data IsDone (gives : Gives) (request : Request) (quiet : Bool) (output error
   audits : (asked : AuditWords) (set : ClearedSet)
       → request ≡ audit asked.beginning (string_bytes asked.path) (source_of asked.source) → IsSetOf gives (source_of asked.source) set
       → IsUnwritten output → IsUnwritten errors → IsDone gives request quiet output errors (Audits set asked)
-  plants : (source : Source) (set : ClearedSet) (options : PlantOptions)
+  plants : (source : SetSource) (set : ClearedSet) (options : PlantOptions)
       → request ≡ plant source options.batches options.ticks options.ring → IsSetOf gives source set → IsUnwritten output → IsUnwritten errors
       → IsDone gives request quiet output errors (Plants set options)
   explains : (texts : List Text) (status : ℕ)

@@ -3,7 +3,7 @@ use Rattle.std.specs.Prelude.{◌≡◌, ◌⊎◌, ℕ, Bool, List}
 use Rattle.std.specs.Io.KnownBytes.{Appends}
 use Rattle.clap.specs.Walk.{Text}
 use Rattle.batch_verify.specs.ClearedSet.{ClearedSet}
-use Rattle.batch_cli.specs.CommandLine.{Request, Source, audit, demo, explain, judge, plant, serve, tell, keep, write, remark, picture, serve_desks}
+use Rattle.batch_cli.specs.CommandLine.{Request, SetSource, audit, demo, explain, judge, plant, serve, tell, keep, write, remark, picture, serve_desks}
 use Rattle.batch_verdicts.specs.Reading.{Gives}
 use Rattle.batch_verdicts.specs.Requests.{HaltsDemo, IsDemoSet, IsSetOf, IsVerdictText}
 use Rattle.batch_verdicts.specs.Running.{AskFor, IsRun, Stream, ask_quiet, memory_status}
@@ -45,7 +45,7 @@ abbrev pub ServesClearedSets : Gives → Type 0
 ServesClearedSets gives =
     (words : List Text) (output errors : Stream) (request : Request) (set : ClearedSet) (quiet : Bool)
     → AskFor words request → IsRun gives words output errors (Serves set quiet)
-    → (source : Source) × (request ≡ serve source) × IsSetOf gives source set × (quiet ≡ ask_quiet words)
+    → (source : SetSource) × (request ≡ serve source) × IsSetOf gives source set × (quiet ≡ ask_quiet words)
 
 -- if the words name no command, the demo is to be served, unless memory ran out, or the demo's documents say why not
 abbrev pub NoCommandServes : Gives → Type 0

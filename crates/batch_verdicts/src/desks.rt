@@ -44,7 +44,7 @@ pub fn clear_desks<D: Documents>(
     let read = read_desk_document(alloc, documents, path)?;
     let mut digest = DocumentsDigest::new();
     let cell = read_cell(alloc, documents, cell, &mut digest)?;
-    judge_units(alloc, path, &read.bytes, &read.desks, &cell)?;
+    look_up_units(alloc, path, &read.bytes, &read.desks, &cell)?;
     let digested = clear_behind(alloc, documents, cell, digest, certificate, recipes)?;
     Ok(DeskSet {
         desks: read.desks,
@@ -68,12 +68,12 @@ fn read_desk_document<D: Documents>(
     ensures halted { IfErr result (HaltsAtDesks (D.gives documents.now) path.now) }
 {
     let bytes = documents.read(alloc, path, MAX_DOCUMENT_LEN)?;
-    let desks = judge_desks(alloc, path, &bytes)?;
+    let desks = parse_desks(alloc, path, &bytes)?;
     Ok(DeskDocument { desks, bytes })
 }
 
 /// The desks of the document at the path. Only a refusal names the path. Their units are looked up in no cell.
-fn judge_desks(alloc: Global, path: &str, bytes: &[u8]) -> Result<Desks, Halt>
+fn parse_desks(alloc: Global, path: &str, bytes: &[u8]) -> Result<Desks, Halt>
     ensures ok { IfOk result (IsDesksDocument bytes.now) }
     ensures refused { IfErr result (RefusesDesks path.now bytes.now) }
 {
@@ -84,7 +84,7 @@ fn judge_desks(alloc: Global, path: &str, bytes: &[u8]) -> Result<Desks, Halt>
 }
 
 /// Looks up the units that the desks name.
-fn judge_units(
+fn look_up_units(
     alloc: Global,
     path: &str,
     bytes: &[u8],

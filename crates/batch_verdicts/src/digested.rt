@@ -7,11 +7,11 @@ ghost use Rattle.batch_verdicts.specs.Halting.{HaltsAtCell, HaltsAtRecipe, Halts
 ghost use Rattle.batch_verdicts.specs.Reading.{ReadsCell};
 
 use crate::documents::{Documents, read_certificate};
-use crate::judging::{clear_recipes, judge_cell, judge_recipe};
+use crate::judging::{clear_recipes, parse_cell, parse_recipe};
 use crate::refusal::Halt;
 use batch_cell::Cell;
 use batch_journal::{Digits, DocumentsDigest};
-use batch_messages::Source;
+use batch_messages::RecipeSource;
 use batch_reader::MAX_DOCUMENT_LEN;
 use batch_recipe::Recipe;
 use batch_verify::Cleared;
@@ -79,7 +79,7 @@ pub(crate) fn read_cell<D: Documents>(
     ensures halted { IfErr result (HaltsAtCell (D.gives documents.now) path.now) }
 {
     let bytes = documents.read(alloc, path, MAX_DOCUMENT_LEN)?;
-    let cell = judge_cell(alloc, path, &bytes)?;
+    let cell = parse_cell(alloc, path, &bytes)?;
     digest.push_document(&bytes);
     Ok(cell)
 }
@@ -89,7 +89,7 @@ fn read_recipe<D: Documents>(
     alloc: Global,
     documents: &D,
     path: &str,
-    sources: &mut Vec<Source>,
+    sources: &mut Vec<RecipeSource>,
     digest: &mut DocumentsDigest,
 ) -> Result<Recipe, Halt>
     ensures read { IfOk result (λ recipe. (text : List ℕ) × ReadsRecipeText (D.gives documents.now) path.now text recipe
@@ -97,9 +97,9 @@ fn read_recipe<D: Documents>(
     ensures halted { IfErr result (HaltsAtRecipe (D.gives documents.now) path.now) }
 {
     let bytes = documents.read(alloc, path, MAX_DOCUMENT_LEN)?;
-    let recipe = judge_recipe(alloc, path, &bytes)?;
+    let recipe = parse_recipe(alloc, path, &bytes)?;
     digest.push_document(&bytes);
-    sources.push(Source::of(alloc, path, &bytes)?)?;
+    sources.push(RecipeSource::of(alloc, path, &bytes)?)?;
     Ok(recipe)
 }
 
@@ -107,7 +107,7 @@ fn read_recipes<D: Documents>(
     alloc: Global,
     documents: &D,
     paths: &[String],
-    sources: &mut Vec<Source>,
+    sources: &mut Vec<RecipeSource>,
     digest: &mut DocumentsDigest,
 ) -> Result<Vec<Recipe>, Halt>
     ensures read { IfOk result (λ recipes. AreTaken (D.gives documents.now) (map string_bytes paths.now) recipes.items digest.old digest.new) }

@@ -5,12 +5,12 @@ ghost use Rattle.batch_verdicts.specs.Reading.{AreCleared, AreRead, AreReadWarne
 ghost use Rattle.batch_verdicts.specs.Saying.{IsWarned};
 
 use crate::judging::{
-    MAX_CERTIFICATE_LEN, clear_recipes, judge_cell, judge_certificate, judge_recipe,
+    MAX_CERTIFICATE_LEN, clear_recipes, parse_cell, parse_certificate, parse_recipe,
 };
 use crate::refusal::Halt;
 use crate::warnings::warn;
 use batch_cell::Cell;
-use batch_messages::Source;
+use batch_messages::RecipeSource;
 use batch_outline::show_recipes;
 use batch_reader::MAX_DOCUMENT_LEN;
 use batch_recipe::Recipe;
@@ -35,7 +35,7 @@ pub(crate) struct CellDocuments {
     pub(crate) cell: Cell,
     pub(crate) recipes: Vec<Recipe>,
     /// The files and lines of the acts of the recipes.
-    pub(crate) sources: Vec<Source>,
+    pub(crate) sources: Vec<RecipeSource>,
 }
 
 /// Reads the documents, and warns of them. The first that can't be read or is refused ends it.
@@ -140,7 +140,7 @@ struct DocumentSet {
     certificate: Certificate,
     recipes: Vec<Recipe>,
     /// The files and lines of the acts of the recipes.
-    sources: Vec<Source>,
+    sources: Vec<RecipeSource>,
 }
 
 fn read_set<D: Documents>(
@@ -175,7 +175,7 @@ pub(crate) fn read_cell<D: Documents>(
     ensures halted { IfErr result (HaltsAtCell (D.gives documents.now) path.now) }
 {
     let bytes = documents.read(alloc, path, MAX_DOCUMENT_LEN)?;
-    judge_cell(alloc, path, &bytes)
+    parse_cell(alloc, path, &bytes)
 }
 
 pub(crate) fn read_certificate<D: Documents>(
@@ -187,7 +187,7 @@ pub(crate) fn read_certificate<D: Documents>(
     ensures halted { IfErr result (HaltsAtCertificate (D.gives documents.now) path.now) }
 {
     let text = documents.read(alloc, path, MAX_CERTIFICATE_LEN)?;
-    judge_certificate(alloc, path, &text)
+    parse_certificate(alloc, path, &text)
 }
 
 /// The recipe of the document at the path. Appends its source to those of the recipes before it.
@@ -195,14 +195,14 @@ pub(crate) fn read_recipe<D: Documents>(
     alloc: Global,
     documents: &D,
     path: &str,
-    sources: &mut Vec<Source>,
+    sources: &mut Vec<RecipeSource>,
 ) -> Result<Recipe, Halt>
     ensures read { IfOk result (ReadsRecipe (D.gives documents.now) path.now) }
     ensures halted { IfErr result (HaltsAtRecipe (D.gives documents.now) path.now) }
 {
     let bytes = documents.read(alloc, path, MAX_DOCUMENT_LEN)?;
-    let recipe = judge_recipe(alloc, path, &bytes)?;
-    sources.push(Source::of(alloc, path, &bytes)?)?;
+    let recipe = parse_recipe(alloc, path, &bytes)?;
+    sources.push(RecipeSource::of(alloc, path, &bytes)?)?;
     Ok(recipe)
 }
 
@@ -210,7 +210,7 @@ pub(crate) fn read_recipes<D: Documents>(
     alloc: Global,
     documents: &D,
     paths: &[String],
-    sources: &mut Vec<Source>,
+    sources: &mut Vec<RecipeSource>,
 ) -> Result<Vec<Recipe>, Halt>
     ensures read { IfOk result (λ recipes. ReadsRecipes (D.gives documents.now) (map string_bytes paths.now) recipes.items) }
     ensures halted { IfErr result (HaltsAtRecipes (D.gives documents.now) (map string_bytes paths.now)) }

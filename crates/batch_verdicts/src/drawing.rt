@@ -11,7 +11,7 @@ use crate::rings::red_edges;
 use crate::texts::{fault_text, graph_text};
 use batch_cell::Cell;
 use batch_check::{CheckFault, Edge, check, graph_of};
-use batch_messages::Source;
+use batch_messages::RecipeSource;
 use batch_recipe::Recipe;
 use std::alloc::{AllocError, Global};
 
@@ -22,7 +22,7 @@ pub fn draw_recipes(
     alloc: Global,
     cell: &Cell,
     recipes: &[Recipe],
-    sources: &[Source],
+    sources: &[RecipeSource],
 ) -> Result<String, Halt>
     ensures drawn { IfOk result (λ text. IsDrawn cell.now recipes.now (string_bytes text)) }
     // claim: refusal text

@@ -17,7 +17,7 @@ use crate::texts::fault_text;
 use crate::warnings::warn;
 use batch_cell::Cell;
 use batch_check::CheckFault;
-use batch_messages::Source;
+use batch_messages::RecipeSource;
 use batch_recipe::Recipe;
 use batch_set::LinkedSet;
 use batch_verify::{first_broken, is_recipe_set};
@@ -171,7 +171,7 @@ fn cell_or_refusal<D: Documents>(
 struct Looked {
     recipes: Vec<Recipe>,
     /// The files and lines of the acts of the recipes.
-    sources: Vec<Source>,
+    sources: Vec<RecipeSource>,
     refusals: Vec<DocumentRefusal>,
 }
 
@@ -223,7 +223,7 @@ fn find_broken_rules(
     alloc: Global,
     cell: &Cell,
     recipes: &[Recipe],
-    sources: &[Source],
+    sources: &[RecipeSource],
 ) -> Result<(), Halt>
     ensures kept { OnOk result (AreRulesKept cell.now recipes.now) }
     ensures broken { IfErr result (RefusesRules cell.now recipes.now) }
@@ -243,7 +243,7 @@ fn rule_refusals(
     alloc: Global,
     cell: &Cell,
     recipes: &[Recipe],
-    sources: &[Source],
+    sources: &[RecipeSource],
 ) -> Result<Vec<DocumentRefusal>, Halt>
     requires { length recipes.now ≤ MAX_RECIPES }
     ensures refused { IfOk result (λ refusals. AreRulesRefused cell.now recipes.now 0 recipes.now refusals.items) }
@@ -268,7 +268,7 @@ fn rule_refusal(
     alloc: Global,
     cell: &Cell,
     recipes: &[Recipe],
-    sources: &[Source],
+    sources: &[RecipeSource],
     fault: &CheckFault,
 ) -> Result<DocumentRefusal, Halt>
     ensures text { IfOk result (λ refusal. string_bytes refusal.text ≡ fault_text cell.now recipes.now fault.now) }

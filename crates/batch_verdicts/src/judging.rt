@@ -13,7 +13,7 @@ use crate::texts::{
 use batch_cell::Cell;
 use batch_check::{CheckFault, check};
 use batch_document_sentences::{Asked, document_sentence};
-use batch_messages::{Source, certificate_sentence, fault_sentence, refusal_sentence};
+use batch_messages::{RecipeSource, certificate_sentence, fault_sentence, refusal_sentence};
 use batch_reader::{DocFault, read_cell, read_recipe};
 use batch_recipe::Recipe;
 use batch_verify::{
@@ -30,7 +30,7 @@ pub const MAX_CERTIFICATE_LEN: usize = 32_768;
 /// A document with a fault is refused by the first that the reader meets, and want of memory for the judgement is refused as
 /// well. If there is no memory for the text of the refusal, the error is [`Halt::Memory`].
 // claim: cell judged
-pub fn judge_cell(alloc: Global, path: &str, bytes: &[u8]) -> Result<Cell, Halt>
+pub fn parse_cell(alloc: Global, path: &str, bytes: &[u8]) -> Result<Cell, Halt>
     ensures ok { IfOk result (IsCellDocument bytes.now) }
     // claim: how refused
     ensures refused { IfErr result (RefusesCell path.now bytes.now) }
@@ -41,9 +41,9 @@ pub fn judge_cell(alloc: Global, path: &str, bytes: &[u8]) -> Result<Cell, Halt>
     }
 }
 
-/// The recipe of the document at the path. Its names are looked up in no cell. Its errors are those of [`judge_cell`].
+/// The recipe of the document at the path. Its names are looked up in no cell. Its errors are those of [`parse_cell`].
 // claim: recipe judged
-pub fn judge_recipe(alloc: Global, path: &str, bytes: &[u8]) -> Result<Recipe, Halt>
+pub fn parse_recipe(alloc: Global, path: &str, bytes: &[u8]) -> Result<Recipe, Halt>
     ensures ok { IfOk result (IsRecipeDocument bytes.now) }
     // claim: how refused
     ensures refused { IfErr result (RefusesRecipe path.now bytes.now) }
@@ -96,7 +96,7 @@ fn refused(
 /// lines, whatever its content. Want of memory is refused as well. If there is none for the text of the refusal, the error is
 /// [`Halt::Memory`]. Only the sentence names the path.
 // claim: certificate judged
-pub fn judge_certificate(alloc: Global, path: &str, text: &[u8]) -> Result<Certificate, Halt>
+pub fn parse_certificate(alloc: Global, path: &str, text: &[u8]) -> Result<Certificate, Halt>
     ensures ok { IfOk result (λ certificate. IsCertificateText text.now certificate.ranks.items) }
     ensures short { OnOk result (length text.now ≤ MAX_CERTIFICATE_LEN) }
     ensures refused { IfErr result (RefusesCertificate text.now) }
@@ -128,7 +128,7 @@ pub fn check_recipes(
     alloc: Global,
     cell: &Cell,
     recipes: &[Recipe],
-    sources: &[Source],
+    sources: &[RecipeSource],
 ) -> Result<String, Halt>
     // claim: certificate text; certificate's length
     ensures checked { IfOk result (λ text. IsChecked cell.now recipes.now (string_bytes text)) }
@@ -149,7 +149,7 @@ pub(crate) fn fault_halt(
     alloc: Global,
     cell: &Cell,
     recipes: &[Recipe],
-    sources: &[Source],
+    sources: &[RecipeSource],
     text: Result<String, AllocError>,
     fault: &CheckFault,
 ) -> Halt
@@ -172,7 +172,7 @@ pub fn clear_recipes(
     alloc: Global,
     cell: Cell,
     recipes: Vec<Recipe>,
-    sources: &[Source],
+    sources: &[RecipeSource],
     certificate: &Certificate,
 ) -> Result<Cleared, Halt>
     ensures set { IfOk result (λ cleared. (cleared.cell ≡ cell) × (cleared.recipes ≡ recipes.items)) }
@@ -188,7 +188,7 @@ pub fn clear_recipes(
 
 fn set_halt(
     alloc: Global,
-    sources: &[Source],
+    sources: &[RecipeSource],
     certificate: &Certificate,
     rejected: &Rejected,
 ) -> Halt

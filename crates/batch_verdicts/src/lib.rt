@@ -28,11 +28,11 @@ pub use drawing::draw_recipes;
 pub use every::{check_asked, draw_asked};
 pub use files::FilesOf;
 pub use judging::{
-    MAX_CERTIFICATE_LEN, check_recipes, clear_recipes, judge_cell, judge_certificate, judge_recipe,
+    MAX_CERTIFICATE_LEN, check_recipes, clear_recipes, parse_cell, parse_certificate, parse_recipe,
 };
 pub use laws::statuses_tell;
 pub use limits::file_limits_are_fixed;
-pub use reading::{MAX_READS, ReadFault, read_document};
+pub use reading::{MAX_DOCUMENT_READS, ReadFault, read_document};
 pub use refusal::{DocumentRefusal, Halt, RefusalKind};
 pub use running::{
     FILE_FAULT, NO_MEMORY, OUT_OF_MEMORY, SUCCESS, USAGE, complain, print, print_bytes, run_words,

@@ -9,7 +9,7 @@ use std::io::{ErrorKind, Read};
 use thiserror::Error;
 
 /// The most calls of a reader for one document, interrupted ones among them.
-pub const MAX_READS: u64 = 2_000_000;
+pub const MAX_DOCUMENT_READS: u64 = 2_000_000;
 
 /// The most bytes that one call of the reader may give.
 const PIECE_LEN: usize = 16_384;
@@ -52,7 +52,7 @@ impl From<io::Error> for ReadFault {
 
 /// All bytes that the reader gives.
 ///
-/// It is asked until it gives none, at most [`MAX_READS`] times; a call that is interrupted is made again. Past the limit it is
+/// It is asked until it gives none, at most [`MAX_DOCUMENT_READS`] times; a call that is interrupted is made again. Past the limit it is
 /// asked no more. No clause counts the calls, or says when [`ReadFault::TooManyReads`] comes.
 pub fn read_document<R: Read>(
     alloc: Global,
@@ -66,7 +66,7 @@ pub fn read_document<R: Read>(
 {
     let mut bytes = Vec::new(alloc);
     let mut piece = [0u8; PIECE_LEN];
-    for _ in 0..MAX_READS {
+    for _ in 0..MAX_DOCUMENT_READS {
         match reader.read(&mut piece) {
             Ok(0) => return Ok(bytes),
             Ok(count) => {

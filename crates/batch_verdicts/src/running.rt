@@ -17,8 +17,8 @@ use crate::every::{check_asked, draw_asked};
 use crate::refusal::{DocumentRefusal, Halt};
 use crate::saying::{write_sentence, write_sentences};
 use batch_cli::{
-    AuditWords, CommandFault, CommandWords, Comments, DeskWords, Judgement, PlantOptions, Source,
-    Subcommand, parse,
+    AuditWords, CommandFault, CommandWords, Comments, DeskWords, Judgement, PlantOptions,
+    SetSource, Subcommand, parse,
 };
 use batch_messages::explain;
 use batch_verify::Cleared;
@@ -149,7 +149,7 @@ fn run_command<D: Documents, O: Write, E: Write>(
 fn serve<D: Documents, O: Write, E: Write>(
     alloc: Global,
     quiet: bool,
-    source: &Source,
+    source: &SetSource,
     documents: &D,
     output: &mut O,
     errors: &mut E,
@@ -220,7 +220,7 @@ fn audit<D: Documents, O: Write, E: Write>(
 fn plant<D: Documents, O: Write, E: Write>(
     alloc: Global,
     quiet: bool,
-    source: &Source,
+    source: &SetSource,
     options: PlantOptions,
     documents: &D,
     output: &mut O,
@@ -240,7 +240,7 @@ fn plant<D: Documents, O: Write, E: Write>(
 fn remark<D: Documents, O: Write, E: Write>(
     alloc: Global,
     quiet: bool,
-    source: &Source,
+    source: &SetSource,
     comments: Comments,
     documents: &D,
     output: &mut O,
@@ -321,14 +321,14 @@ fn run_judgement<D: Documents, E: Write>(
 fn clear_source<D: Documents>(
     alloc: Global,
     documents: &D,
-    source: &Source,
+    source: &SetSource,
 ) -> Result<Cleared, Halt>
     ensures set { IfOk result (IsSetOf (D.gives documents.now) (source_of source.now)) }
     ensures halted { IfErr result (HaltsSource (D.gives documents.now) (source_of source.now)) }
 {
     match source {
-        Source::Demo => clear_demo(alloc),
-        Source::Documents {
+        SetSource::Demo => clear_demo(alloc),
+        SetSource::Documents {
             cell,
             certificate,
             recipes,

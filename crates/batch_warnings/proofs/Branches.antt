@@ -1,7 +1,7 @@
 -- The labels and values that a chart names, branch by branch.
 use Rattle.std.proofs.Common.{arith, ◌≡◌, Bool, ◌||◌, List, [], ◌∷◌, map, refl}
 use Rattle.std.specs.List.{list_any}
-use Rattle.batch_recipe.specs.{Conditions.Name, Diagram.Diagram, Diagram.seq, Diagram.sel, Diagram.diagram_of, Diagram.diagrams_of, Diagram.cases_of, declared.chart.Chart.Chart, declared.condition.Cond.Cond}
+use Rattle.batch_recipe.specs.{Conditions.Name, Diagram.Diagram, Diagram.seq, Diagram.sel, Diagram.diagram_of, Diagram.diagrams_of, Diagram.cases_of, declared.chart.Chart.Chart, declared.condition.Condition.Condition}
 use Rattle.batch_warnings.specs.Warnings.{diagram_compares, condition_names, has_label}
 
 either : (a b c : Bool) → ((a || b) || c) ≡ (a || (b || c))
@@ -15,7 +15,7 @@ module _ (name : Name) where
   branches_labelled (c ∷ cs) = grind (arith, branches_labelled cs)
 
   -- the branches of a `sel`
-  pub choices_labelled : (choices : List (Cond × Chart)) (last : Diagram)
+  pub choices_labelled : (choices : List (Condition × Chart)) (last : Diagram)
       → (list_any (λ choice. has_label name (diagram_of choice.1)) choices || has_label name last)
       ≡ has_label name (sel (cases_of (map (λ choice. (choice.0, diagram_of choice.1)) choices) last))
   choices_labelled [] last = refl
@@ -26,7 +26,7 @@ module _ (name : Name) where
   branches_compare [] = refl
   branches_compare (c ∷ cs) = grind (arith, branches_compare cs)
 
-  pub choices_compare : (choices : List (Cond × Chart)) (last : Diagram)
+  pub choices_compare : (choices : List (Condition × Chart)) (last : Diagram)
       → (list_any (λ choice. condition_names name choice.0 || diagram_compares name (diagram_of choice.1)) choices || diagram_compares name last)
       ≡ diagram_compares name (sel (cases_of (map (λ choice. (choice.0, diagram_of choice.1)) choices) last))
   choices_compare [] last = refl

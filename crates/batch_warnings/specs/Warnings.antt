@@ -11,7 +11,7 @@ use Rattle.batch_recipe.specs.declared.act.Act.{Act}
 use Rattle.batch_recipe.specs.declared.act.UnitChoice.TheVariants.{Unit, Role}
 use Rattle.batch_recipe.specs.declared.act.Work.TheVariants.{Follows, Runs}
 use Rattle.batch_recipe.specs.declared.acts.Acts.{Acts}
-use Rattle.batch_recipe.specs.declared.condition.Cond.{Cond}
+use Rattle.batch_recipe.specs.declared.condition.Condition.{Condition}
 use Rattle.batch_recipe.specs.declared.condition.Term.TheVariants.{Named, Number}
 use Rattle.batch_recipe.specs.declared.acts.LabelTable.{LabelTable}
 use Rattle.batch_recipe.specs.declared.acts.LabelTable.TheVariants.{UnitProcedures, Operations, Phases}
@@ -42,7 +42,7 @@ abbrev mutual
   choice_has_label name (when c d cs) = has_label name d || choice_has_label name cs
 
 -- the condition compares the value of this name
-abbrev pub condition_names : Name → Cond → Bool
+abbrev pub condition_names : Name → Condition → Bool
 condition_names name c = same_name name c.name || elim c.term [ Named other ↦ same_name name other | Number n ↦ false ]
 
 -- a condition of the chart does

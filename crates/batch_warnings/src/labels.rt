@@ -5,7 +5,7 @@ ghost use Rattle.batch_recipe.specs.Diagram.{diagram_of};
 ghost use Rattle.batch_warnings.specs.LabelSets.{AddsNames, AreLabelsFor};
 ghost use Rattle.batch_warnings.specs.Warnings.{act_has_label, acts_above, has_label};
 
-use batch_recipe::{Act, Acts, Chart, Cond, LabelTable, Work};
+use batch_recipe::{Act, Acts, Chart, Condition, LabelTable, Work};
 use batch_text::Name;
 use indexmap::IndexSet;
 use std::alloc::{AllocError, Global};
@@ -81,7 +81,7 @@ fn add_of_each<'a>(labels: &mut IndexSet<&'a Name>, charts: &'a [Chart]) -> Resu
 #[cycle(labels)]
 fn add_of_choices<'a>(
     labels: &mut IndexSet<&'a Name>,
-    choices: &'a [(Cond, Chart)],
+    choices: &'a [(Condition, Chart)],
 ) -> Result<(), AllocError>
     ensures { OnOk result (AddsNames (λ name. list_any (λ choice. has_label name (diagram_of choice.1)) choices.now) labels.old.keys labels.new.keys) }
 {

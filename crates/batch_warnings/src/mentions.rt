@@ -4,7 +4,7 @@ ghost use Rattle.std.specs.List.{list_any};
 ghost use Rattle.batch_recipe.specs.Diagram.{diagram_of};
 ghost use Rattle.batch_warnings.specs.Warnings.{act_compares, diagram_compares, condition_names};
 
-use batch_recipe::{Act, Chart, Cond, Term, Work};
+use batch_recipe::{Act, Chart, Condition, Term, Work};
 use batch_text::Name;
 
 /// Whether the act follows a chart with a condition that compares the value of this name.
@@ -44,7 +44,7 @@ fn any_compares(charts: &[Chart], name: &Name) -> bool
 }
 
 #[cycle(values)]
-fn any_choice_compares(choices: &[(Cond, Chart)], name: &Name) -> bool
+fn any_choice_compares(choices: &[(Condition, Chart)], name: &Name) -> bool
     ensures { result ≡ list_any (λ choice. condition_names name.now choice.0 || diagram_compares name.now (diagram_of choice.1)) choices.now }
 {
     for choice in choices {
@@ -56,7 +56,7 @@ fn any_choice_compares(choices: &[(Cond, Chart)], name: &Name) -> bool
 }
 
 /// Whether the condition compares the value of this name.
-fn is_compared(condition: &Cond, name: &Name) -> bool
+fn is_compared(condition: &Condition, name: &Name) -> bool
     ensures { result ≡ condition_names name.now condition.now }
 {
     *name == condition.name

@@ -8,27 +8,27 @@ ghost use Rattle.batch_wire.specs.declared.fault.WireFault.TheVariants.{Memory};
 use crate::event_line::read_number;
 use crate::fault::WireFault;
 use crate::pairs::{are_at_most, parted};
-use crate::words::Words;
+use crate::words::EventWords;
 use batch_engine::Event;
 use batch_recipe::MAX_ROLES;
 use batch_text::{Name, is_name};
 use std::alloc::Global;
 
-pub(crate) fn read_create(alloc: Global, mut arguments: Words<'_>) -> Result<Event, WireFault>
+pub(crate) fn read_create(alloc: Global, mut arguments: EventWords<'_>) -> Result<Event, WireFault>
     ensures { ReadsEvent result (create_of (event_words arguments.entry.rest.now)) }
 {
     let recipe = arguments.next().ok_or(WireFault::MissingArgument)?;
     let size = arguments.next().ok_or(WireFault::MissingArgument)?;
     let pairs = arguments.rest();
-    if !are_at_most(Words::of(pairs), MAX_ROLES) {
+    if !are_at_most(EventWords::of(pairs), MAX_ROLES) {
         return Err(WireFault::ExtraArgument);
     }
-    if !is_name(recipe) || !are_role_pairs(Words::of(pairs)) {
+    if !is_name(recipe) || !are_role_pairs(EventWords::of(pairs)) {
         return Err(WireFault::BadArgument);
     }
     let size = read_number(size)?;
     let recipe = Name::read(alloc, recipe).map_err(|_| WireFault::Memory)?;
-    let roles = read_role_pairs(alloc, Words::of(pairs))?;
+    let roles = read_role_pairs(alloc, EventWords::of(pairs))?;
     Ok(Event::Create {
         recipe,
         size,
@@ -36,7 +36,7 @@ pub(crate) fn read_create(alloc: Global, mut arguments: Words<'_>) -> Result<Eve
     })
 }
 
-fn are_role_pairs(mut pairs: Words<'_>) -> bool
+fn are_role_pairs(mut pairs: EventWords<'_>) -> bool
     ensures { result ≡ list_all is_role_pair (event_words pairs.entry.rest.now) }
 {
     while let Some(pair) = pairs.next() {
@@ -56,7 +56,7 @@ fn is_role_pair(word: &[u8]) -> bool
 }
 
 /// The roles that pairs bind, each with its unit.
-fn read_role_pairs(alloc: Global, mut pairs: Words<'_>) -> Result<Vec<(Name, Name)>, WireFault>
+fn read_role_pairs(alloc: Global, mut pairs: EventWords<'_>) -> Result<Vec<(Name, Name)>, WireFault>
     requires { list_all is_role_pair (event_words pairs.rest.now) ≡ true }
     ensures { MatchResult result (λ roles. roles.items ≡ map role_pair_of (event_words pairs.entry.rest.now)) (λ fault. fault ≡ Memory) }
 {

@@ -24,5 +24,5 @@ pub use fault::{WireFault, WriteFault};
 pub use known_places::KnownPlaces;
 pub use record_line::{write_out, write_out_knowing};
 pub use report_line::{MAX_PAIRS, word_of_report};
-pub use rows::{create_lines, limits, record_lines};
+pub use rows::{create_lines, line_limits_are_fixed, record_lines};
 pub use writing::write_all;

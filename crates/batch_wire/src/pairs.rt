@@ -3,10 +3,10 @@ ghost use Rattle.std.specs.Prelude.{◌≡◌, length, nat_le, IsOkUnless, Match
 ghost use Rattle.std.specs.List.{before_first, after_first};
 ghost use Rattle.batch_wire.specs.EventLine.{event_words, is_equals};
 
-use crate::words::Words;
+use crate::words::EventWords;
 
 /// Whether there are no more than so many words.
-pub fn are_at_most(mut line: Words<'_>, most: usize) -> bool
+pub fn are_at_most(mut line: EventWords<'_>, most: usize) -> bool
     ensures { result ≡ nat_le (length (event_words line.entry.rest.now)) most }
 {
     let mut left = most;

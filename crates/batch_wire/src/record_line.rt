@@ -16,7 +16,7 @@ use crate::fault::WriteFault;
 use crate::known_places::{KnownPlaces, seat_of};
 use crate::line_room::LineRoom;
 use crate::names::{
-    act_name, handed_names, output_name, phase_name, recipe_at, recipe_name, resource_name,
+    chart_act_name, handed_names, output_name, phase_name, recipe_at, recipe_name, resource_name,
     value_name,
 };
 use crate::places::{ToldPlace, write_node_place, write_place};
@@ -453,7 +453,12 @@ fn write_move<W: Write>(
         } => write_send(place, cleared, unit, phase, command, writer),
         Line::State { batch, state } => write_state(batch, state, writer),
         Line::Begin { recipe, node, .. } => {
-            write_step(b"begin ", place, act_name(cleared, recipe, node), writer)
+            write_step(
+                b"begin ",
+                place,
+                chart_act_name(cleared, recipe, node),
+                writer,
+            )
         }
         Line::Start {
             recipe,

@@ -36,7 +36,7 @@ pub fn record_lines()
 {}
 
 // claim: most pairs (pairs, roles)
-pub fn limits()
+pub fn line_limits_are_fixed()
     // claim: longest line
     ensures line { MAX_LINE_LEN ≡ 1024 }
     ensures pairs { MAX_PAIRS ≡ 16 }

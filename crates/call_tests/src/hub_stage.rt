@@ -3,14 +3,14 @@ use crate::looping::{console_told, hub_told};
 use crate::ports::{at_desks, at_hub};
 use crate::teller::Teller;
 use crate::words::{number_of, shown};
-use batch_desk::{Desk, Hub, HubFault};
+use batch_desk::{Hub, HubFault, PortDesk};
 use batch_verify::Cleared;
 use std::alloc::Global;
 use std::test::Fail;
 
 /// A hub, and the desks of its ports.
 #[derive(Drop)]
-pub(crate) struct Stage(pub(crate) (Hub, Vec<Desk>));
+pub(crate) struct Stage(pub(crate) (Hub, Vec<PortDesk>));
 
 /// Seals a port. Returns whether there is a token.
 fn sealed(hub: &mut Hub, port: usize) -> Result<bool, HubFault> {
@@ -23,7 +23,7 @@ fn seal(alloc: Global, hub: &mut Hub, port: &str) -> Result<String, Fail> {
 }
 
 /// No desk is left.
-fn lose(alloc: Global, desks: &mut Vec<Desk>) -> Result<String, Fail> {
+fn lose(alloc: Global, desks: &mut Vec<PortDesk>) -> Result<String, Fail> {
     desks.clear();
     Ok(String::new(alloc))
 }

@@ -7,7 +7,7 @@ use crate::lines::text_of;
 use crate::ports::{at_desks, at_hub};
 use crate::teller::Teller;
 use crate::words::shown;
-use batch_desk::{Desk, Hub, HubFault, Inbox};
+use batch_desk::{Hub, HubFault, Inbox, PortDesk};
 use batch_engine::{Event, Out};
 use batch_verify::Cleared;
 use rtrb::Finished;
@@ -21,7 +21,7 @@ pub(crate) struct Left {
     pub(crate) hub: Hub,
     pub(crate) token: Option<Finished<Event>>,
     pub(crate) inbox: Inbox,
-    pub(crate) others: Vec<Desk>,
+    pub(crate) others: Vec<PortDesk>,
 }
 
 impl Model for Left {

@@ -1,6 +1,6 @@
 //! Loops of a hub and of a console: so many turns at a gate, and how they end.
 use crate::words::{loop_word, number_of, said};
-use batch_desk::{BatchPlan, Desk, Gate, Hub, LoopEnd, console_loop, hub_loop};
+use batch_desk::{BatchPlan, Gate, Hub, LoopEnd, PortDesk, console_loop, hub_loop};
 use batch_text::Name;
 use std::alloc::Global;
 use std::test::Fail;
@@ -25,7 +25,7 @@ fn loop_words(words: &str) -> Result<(u64, u64, Open), Fail> {
 }
 
 /// How a loop of a desk's console ended, which makes A in size 1000.
-fn console_end(alloc: Global, desk: &mut Desk, words: &str) -> Result<LoopEnd, Fail> {
+fn console_end(alloc: Global, desk: &mut PortDesk, words: &str) -> Result<LoopEnd, Fail> {
     let (batches, limit, mut gate) = loop_words(words)?;
     let plan = BatchPlan {
         recipe: Name::read(alloc, b"A")?,
@@ -45,7 +45,7 @@ pub(crate) fn hub_told(alloc: Global, hub: &mut Hub, words: &str) -> Result<Stri
 /// How a loop of the first desk's console ended.
 pub(crate) fn console_told(
     alloc: Global,
-    desks: &mut Vec<Desk>,
+    desks: &mut Vec<PortDesk>,
     words: &str,
 ) -> Result<String, Fail> {
     match desks.get_mut(0) {

@@ -6,7 +6,7 @@ ghost use Rattle.batch_desk.specs.HubState.{rings};
 use crate::lines::text_of;
 use crate::records::event_of;
 use crate::words::{event_words, number_of, said, shown, turn_word};
-use batch_desk::{Desk, Full, Hub, HubFault, PortPlan, Scope, Turned};
+use batch_desk::{Full, Hub, HubFault, PortDesk, PortPlan, Scope, Turned};
 use batch_verify::Cleared;
 use std::alloc::Global;
 use std::test::Fail;
@@ -38,7 +38,7 @@ fn event_back(alloc: Global, sent: &Result<(), Full>) -> Result<String, Fail> {
 }
 
 /// Sends the event of a line. Returns the event that came back, if one did.
-fn send(alloc: Global, desk: &mut Desk, line: &str) -> Result<String, Fail>
+fn send(alloc: Global, desk: &mut PortDesk, line: &str) -> Result<String, Fail>
     ensures { desk_rings desk.new ≡ desk_rings desk.old }
 {
     let sent = desk.send(event_of(alloc, line)?);
@@ -46,7 +46,7 @@ fn send(alloc: Global, desk: &mut Desk, line: &str) -> Result<String, Fail>
 }
 
 /// Takes an out at a desk. Returns its line.
-fn next_out(alloc: Global, cleared: &Cleared, desk: &mut Desk) -> Result<String, Fail>
+fn next_out(alloc: Global, cleared: &Cleared, desk: &mut PortDesk) -> Result<String, Fail>
     ensures { desk_rings desk.new ≡ desk_rings desk.old }
 {
     let out = desk.pop_out();
@@ -57,7 +57,7 @@ fn next_out(alloc: Global, cleared: &Cleared, desk: &mut Desk) -> Result<String,
 pub(crate) fn at_desk(
     alloc: Global,
     cleared: &Cleared,
-    desk: &mut Desk,
+    desk: &mut PortDesk,
     line: &str,
 ) -> Result<String, Fail>
     ensures { desk_rings desk.new ≡ desk_rings desk.old }
@@ -72,7 +72,7 @@ pub(crate) fn at_desk(
 pub(crate) fn at_desks(
     alloc: Global,
     cleared: &Cleared,
-    desks: &mut Vec<Desk>,
+    desks: &mut Vec<PortDesk>,
     first: usize,
     words: &str,
 ) -> Result<String, Fail> {

@@ -7,7 +7,7 @@ use crate::hubs::hub_of;
 use crate::left::Left;
 use crate::ports::{at_desk, at_desks, at_hub};
 use crate::teller::Teller;
-use batch_desk::{Desk, Hub, PortPlan};
+use batch_desk::{Hub, PortDesk, PortPlan};
 use batch_verify::Cleared;
 use std::alloc::Global;
 use std::marker::Model;
@@ -17,8 +17,8 @@ use std::test::Fail;
 #[derive(Drop)]
 pub(crate) struct Seats {
     hub: Hub,
-    first: Desk,
-    others: Vec<Desk>,
+    first: PortDesk,
+    others: Vec<PortDesk>,
 }
 
 impl Model for Seats {
@@ -40,7 +40,7 @@ impl Seats {
 
     /// The first of the desks is set apart.
     #[tactic(auto, using(crate::proofs::FirstPort::first_seated))]
-    fn of(hub: Hub, desks: Vec<Desk>) -> Result<Seats, Fail>
+    fn of(hub: Hub, desks: Vec<PortDesk>) -> Result<Seats, Fail>
         requires { rings hub ≡ map desk_rings desks.items }
     {
         let mut others = desks;

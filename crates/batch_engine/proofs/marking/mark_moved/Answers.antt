@@ -3,10 +3,10 @@ use Rattle.batch_engine.{specs.Marking.IsServedAt, proofs.BatchMarks.few, proofs
 use Rattle.batch_engine.proofs.marking.mark_moved.Goals as goal
 
 pub clear_below-requires : goal.clear_below-requires
-clear_below-requires c = omega (arith, c.requires.batch, few c.args.control.now c.is_kept.ensures)
+clear_below-requires c = omega (arith, c.requires.batch, few c.args.control.now c.recall_invariant.ensures)
 
 pub mark-requires : goal.mark-requires
-mark-requires c = omega (arith, c.requires.batch, few c.args.control.now c.is_kept.ensures)
+mark-requires c = omega (arith, c.requires.batch, few c.args.control.now c.recall_invariant.ensures)
 
 pub returns-in-Some-clause-set : goal.returns-in-Some-clause-set
 returns-in-Some-clause-set c =

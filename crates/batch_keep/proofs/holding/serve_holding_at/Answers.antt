@@ -7,7 +7,7 @@ use Rattle.batch_keep.proofs.holding.serve_holding_at.Goals as goal
 pub returns-in-Ok-clause-never_lost : goal.returns-in-Ok-clause-never_lost
 returns-in-Ok-clause-never_lost g c = λ d known all start is base.
     let disk = c.serve_at-served.result.1 in
-    never_lost (setup c.args.engine.now.cleared) (plant_of c.args.engine.now) g.C.Run.documents start (g.D.Disk.durable disk) (g.D.Disk.seen disk)
+    never_lost (setup c.args.engine.now.cleared) (plant_of c.args.engine.now) g.C.JournalRun.documents start (g.D.Disk.durable disk) (g.D.Disk.seen disk)
     (g.D.Disk.given disk) g.S.Start.contents _ _ _
     (c.new-held.ensures ∙ ap (λ (known_first : Option (List ℕ)). append_known known_first []) (sym c.requires.first)) c.finish-told.ensures.clear (c.serve_at-served.ensures.again d known all start is base)
 
@@ -20,6 +20,6 @@ returns-in-Ok-clause-served g c =
 pub returns-in-Err-clause-never_lost : goal.returns-in-Err-clause-never_lost
 returns-in-Err-clause-never_lost g c = λ d known all start is base.
     let disk = c.serve_at-served.result.1 in
-    never_lost (setup c.args.engine.now.cleared) (plant_of c.args.engine.now) g.C.Run.documents start (g.D.Disk.durable disk) (g.D.Disk.seen disk)
+    never_lost (setup c.args.engine.now.cleared) (plant_of c.args.engine.now) g.C.JournalRun.documents start (g.D.Disk.durable disk) (g.D.Disk.seen disk)
     (g.D.Disk.given disk) g.S.Start.contents _ _ _
     (c.new-held.ensures ∙ ap (λ (known_first : Option (List ℕ)). append_known known_first []) (sym c.requires.first)) c.into_inner.ensures (c.serve_at-served.ensures.again d known all start is base)

@@ -21,5 +21,5 @@ returns-clause-again g c = λ d known all start is base.
     c.new-reader.ensures.remaining (sym known ∙ is) (c.into_disk.ensures.accounted d all is) (c.into_disk.ensures.whole d) (c.into_disk.ensures.lines d)
     (record { served = did.served; ended = did.ended; read_fault = did.read_fault; too_many_reads = did.too_many_reads; write_fault = did.write_fault_read }) in
     let recalled = c.into_disk.ensures.recalled d in
-    again (setup c.args.engine.now.cleared) (plant_of c.args.engine.now) g.C.Run.documents g.C.Run.base start _ _ _ _ _ c.recovered_are_lines.ensures.recovered c.lines_begin.ensures c.want_is_not_told.ensures base tells
-    (λ left may. recalled.each _ (g.met.D.Disk.counts_now disk g.C.Run.since (record { file = left.file; given = g.D.Disk.given disk }) d recalled.later (all_given _ _ _ left may)))
+    again (setup c.args.engine.now.cleared) (plant_of c.args.engine.now) g.C.JournalRun.documents g.C.JournalRun.base start _ _ _ _ _ c.recovered_are_lines.ensures.recovered c.lines_begin.ensures c.want_is_not_told.ensures base tells
+    (λ left may. recalled.each _ (g.met.D.Disk.counts_now disk g.C.JournalRun.since (record { file = left.file; given = g.D.Disk.given disk }) d recalled.later (all_given _ _ _ left may)))

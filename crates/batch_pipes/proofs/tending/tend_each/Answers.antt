@@ -1,5 +1,5 @@
 use Rattle.std.proofs.Common.{◌<◌, arith, length, length-set}
-use Rattle.batch_serve.{specs.declared.desk.Desk.Desk, specs.declared.rounds.Reader.Reader, specs.declared.rounds.Writer.Writer, proofs.DeskLines.each_more, proofs.DeskLines.kept_behind, specs.Rounds.IsHandedOn}
+use Rattle.batch_serve.{specs.declared.desk.ServedDesk.ServedDesk, specs.declared.rounds.Reader.Reader, specs.declared.rounds.Writer.Writer, proofs.DeskLines.each_more, proofs.DeskLines.kept_behind, specs.Rounds.IsHandedOn}
 use Rattle.batch_pipes.{specs.declared.ports.DeskThreads.DeskThreads, specs.Outputs.asked_of, specs.declared.input_order.InputOrder.InputOrder, specs.declared.output.Output.Output, proofs.DeskChanges.done_more, proofs.DeskChanges.readers_more, proofs.Lists.same_set, proofs.WriterOutputs.output_here, proofs.WriterOutputs.outputs_set}
 use Rattle.batch_pipes.proofs.tending.tend_each.Goals as goal
 
@@ -10,11 +10,11 @@ loop-at-preserved g c =
     let in_outputs : i < length c.loop-at.outputs.items = omega (arith, so_far.count, so_far.ports.writers, so_far.outputs.of.count) in
     record {
       ports = record {
-        readers = omega (arith, length-set {A = Reader (InputOrder g.row.P.Denot)}, length-set {A = Desk}, so_far.ports.readers);
-        writers = omega (arith, length-set {A = Writer}, length-set {A = Desk}, so_far.ports.writers);
-        threads = omega (arith, length-set {A = DeskThreads}, length-set {A = Desk}, so_far.ports.threads);
+        readers = omega (arith, length-set {A = Reader (InputOrder g.row.P.Denot)}, length-set {A = ServedDesk}, so_far.ports.readers);
+        writers = omega (arith, length-set {A = Writer}, length-set {A = ServedDesk}, so_far.ports.writers);
+        threads = omega (arith, length-set {A = DeskThreads}, length-set {A = ServedDesk}, so_far.ports.threads);
       };
-      count = omega (arith, length-set {A = Desk}, so_far.count);
+      count = omega (arith, length-set {A = ServedDesk}, so_far.count);
       handed = each_more IsHandedOn c.args.desks.now.items c.loop-at.desks.items c.args.ports.now.writers.items c.loop-at.ports.writers.items i c.index_mut-desk.result.now c.tend-other.new.desk
           c.index_mut-writer.result.now c.tend-other.new.writer (omega (arith, so_far.count)) (omega (arith, so_far.count, so_far.ports.writers)) c.index_mut-desk.ensures.value
           c.index_mut-writer.ensures.value c.tend-other.ensures.desk so_far.handed so_far.rest_desks so_far.rest_writers;

@@ -1,6 +1,6 @@
 use Rattle.std.proofs.Common.{◌≡◌, [], ◌∷◌, ◌++◌, map, ℕ, ◌+◌, List, Some, None, Ok, Err, sym, ap, ◌∙◌, arith, refl, subst, slice_get, append-nil, append_assoc, length, length-append}
 use Rattle.std.proofs.lemmas.{Grind.common_steps, Option.slice_get_read, Result.err_from_is_err_and}
-use Rattle.batch_recipe.{specs.Diagram.diagram_of, specs.Diagram.cases_of, specs.Conditions.same_name, specs.Expanding.act_named, specs.Growing.Head, specs.Growing.grown_work, specs.Growing.plain_head, specs.Growing.act_head, specs.Growing.topped, specs.Growing.grown, specs.Growing.grown_cases, specs.Growing.told_from, specs.Growing.named_from, specs.Growing.conditions_of_cases, specs.Growing.conditions_along_cases, specs.Growing.number_in, specs.Growing.unit_number, specs.Growing.branch_entries, specs.Growing.chart_entries, specs.Growing.chart_conditions, specs.Growing.act_entries, specs.Growing.HasGrown, specs.Growing.HasAdded, specs.Procedure.table_at, specs.Procedure.tables_from, specs.declared.chart.Chart.Chart, specs.declared.condition.Cond.Cond, specs.declared.act.Act.Act, specs.declared.act.Work.Work, specs.declared.entry.Entry.Entry, proofs.NodeCounts.counted, proofs.NodeCounts.counted_act, proofs.NodeCounts.counted_name, proofs.Diagrams.diagram_of-label, proofs.Diagrams.diagram_of-seq, proofs.Diagrams.diagram_of-par, proofs.Diagrams.diagram_of-sel, proofs.Diagrams.diagram_of-loop, proofs.Tables.counted_some, proofs.Branches.counted_at, proofs.Branches.counted_choice, proofs.Branches.counted_last, proofs.Growth.found_at, proofs.Growth.node_grown, proofs.Growth.node_failed, proofs.Growth.no_number, proofs.Growth.no_number_told, proofs.Growth.some_act, proofs.Growth.some_act_told, proofs.Growth.nothing_added, proofs.Growth.grown_as, proofs.Growth.KeepsGrowing-more, proofs.Growth.KeepsGrowing-stop, proofs.Growth.KeepsGrowing-room, proofs.Growth.KeepsGrowing-all, proofs.Growth.KeepsGrowing-told, proofs.Growth.KeepsChoosing-more, proofs.Growth.KeepsChoosing-stop, proofs.Growth.KeepsChoosing-room, proofs.Growth.KeepsChoosing-last, proofs.Growth.KeepsChoosing-told, proofs.ConditionCopies.conditions-are}
+use Rattle.batch_recipe.{specs.Diagram.diagram_of, specs.Diagram.cases_of, specs.Conditions.same_name, specs.Expanding.act_named, specs.Growing.Head, specs.Growing.grown_work, specs.Growing.plain_head, specs.Growing.act_head, specs.Growing.topped, specs.Growing.grown, specs.Growing.grown_cases, specs.Growing.told_from, specs.Growing.named_from, specs.Growing.conditions_of_cases, specs.Growing.conditions_along_cases, specs.Growing.number_in, specs.Growing.unit_number, specs.Growing.branch_entries, specs.Growing.chart_entries, specs.Growing.chart_conditions, specs.Growing.act_entries, specs.Growing.HasGrown, specs.Growing.HasAdded, specs.Procedure.table_at, specs.Procedure.tables_from, specs.declared.chart.Chart.Chart, specs.declared.condition.Condition.Condition, specs.declared.act.Act.Act, specs.declared.act.Work.Work, specs.declared.entry.Entry.Entry, proofs.NodeCounts.counted, proofs.NodeCounts.counted_act, proofs.NodeCounts.counted_name, proofs.Diagrams.diagram_of-label, proofs.Diagrams.diagram_of-seq, proofs.Diagrams.diagram_of-par, proofs.Diagrams.diagram_of-sel, proofs.Diagrams.diagram_of-loop, proofs.Tables.counted_some, proofs.Branches.counted_at, proofs.Branches.counted_choice, proofs.Branches.counted_last, proofs.Growth.found_at, proofs.Growth.node_grown, proofs.Growth.node_failed, proofs.Growth.no_number, proofs.Growth.no_number_told, proofs.Growth.some_act, proofs.Growth.some_act_told, proofs.Growth.nothing_added, proofs.Growth.grown_as, proofs.Growth.KeepsGrowing-more, proofs.Growth.KeepsGrowing-stop, proofs.Growth.KeepsGrowing-room, proofs.Growth.KeepsGrowing-all, proofs.Growth.KeepsGrowing-told, proofs.Growth.KeepsChoosing-more, proofs.Growth.KeepsChoosing-stop, proofs.Growth.KeepsChoosing-room, proofs.Growth.KeepsChoosing-last, proofs.Growth.KeepsChoosing-told, proofs.ConditionCopies.conditions-are}
 use Rattle.batch_recipe.specs.declared.entry.Kind.TheVariants as kind
 use Rattle.batch_recipe.proofs.growing.+grow.Goals as goal
 
@@ -171,7 +171,7 @@ grow_label-returns-in-Some-get-clause-added t c =
     sym (ap (λ ts. slice_get ts c.in-Some-number_of.number) c.table.ensures)
     ∙ slice_get_read c.table.result.now (length c.table.result.now) c.in-Some-number_of.number c.in-Some-get.act.now refl
     (grind (arith, common_steps, c.in-Some-get.ensures.lookup)) c.in-Some-get.ensures.lookup.1 in
-    subst (λ (cs : List Cond). HasAdded c.args.conditions.now.items cs c.grow_act.new.conditions.items c.grow_act.result)
+    subst (λ (cs : List Condition). HasAdded c.args.conditions.now.items cs c.grow_act.new.conditions.items c.grow_act.result)
     (sym (some_act_told c.args.labels.now.acts.now c.args.seat.level c.args.name.now c.in-Some.table c.in-Some.is c.in-Some-number_of.number number c.in-Some-get.act.now c.below-level.result c.below-level.ensures got))
     c.grow_act.ensures.added
 
@@ -229,10 +229,10 @@ grow_selection-returns-clause-grown t c =
     let level = c.args.seat.level in
     let told = told_from acts level in
     let named = named_from acts level c.args.seat.unit in
-    let cs = cases_of (map (λ (choice : Cond × Chart). (choice.0, diagram_of choice.1)) c.args.choices.now) (diagram_of c.args.last.now) in
+    let cs = cases_of (map (λ (choice : Condition × Chart). (choice.0, diagram_of choice.1)) c.args.choices.now) (diagram_of c.args.last.now) in
     let pushed = c.push_conditions.new.conditions.items in
     let pushed_is : pushed ≡ conds ++ conditions_of_cases cs =
-    c.in-Ok.ensures ∙ ap (λ (xs : List Cond). conds ++ xs) (conditions-are c.args.choices.now (diagram_of c.args.last.now)) in
+    c.in-Ok.ensures ∙ ap (λ (xs : List Condition). conds ++ xs) (conditions-are c.args.choices.now (diagram_of c.args.last.now)) in
     let size : length pushed ≡ length conds + length (conditions_of_cases cs) = ap length pushed_is ∙ length-append conds (conditions_of_cases cs) in
     let head : plain_head kind.Sel c.len-first.result ≡ plain_head kind.Sel (length conds) = ap (λ m. plain_head kind.Sel m) (omega (arith, c.len-first.ensures)) in
     let below : ℕ → ℕ → List Entry = λ m n. grown_cases told named m (length pushed) n 0 cs in
@@ -248,12 +248,12 @@ grow_selection-returns-clause-added t c =
     let acts = c.args.labels.now.acts.now in
     let level = c.args.seat.level in
     let told = told_from acts level in
-    let cs = cases_of (map (λ (choice : Cond × Chart). (choice.0, diagram_of choice.1)) c.args.choices.now) (diagram_of c.args.last.now) in
+    let cs = cases_of (map (λ (choice : Condition × Chart). (choice.0, diagram_of choice.1)) c.args.choices.now) (diagram_of c.args.last.now) in
     let pushed = c.push_conditions.new.conditions.items in
     let pushed_is : pushed ≡ conds ++ conditions_of_cases cs =
-    c.in-Ok.ensures ∙ ap (λ (xs : List Cond). conds ++ xs) (conditions-are c.args.choices.now (diagram_of c.args.last.now)) in
+    c.in-Ok.ensures ∙ ap (λ (xs : List Condition). conds ++ xs) (conditions-are c.args.choices.now (diagram_of c.args.last.now)) in
     c.in_ok-grow_choices.ensures.added
-    ∙ (ap (λ (xs : List Cond). xs ++ conditions_along_cases told cs) pushed_is ∙ append_assoc conds (conditions_of_cases cs) (conditions_along_cases told cs))
+    ∙ (ap (λ (xs : List Condition). xs ++ conditions_along_cases told cs) pushed_is ∙ append_assoc conds (conditions_of_cases cs) (conditions_along_cases told cs))
 
 pub grow_selection-returns-in_err-grow_choices-clause-grown : goal.grow_selection-returns-in_err-grow_choices-clause-grown
 grow_selection-returns-in_err-grow_choices-clause-grown t c =
@@ -263,10 +263,10 @@ grow_selection-returns-in_err-grow_choices-clause-grown t c =
     let level = c.args.seat.level in
     let told = told_from acts level in
     let named = named_from acts level c.args.seat.unit in
-    let cs = cases_of (map (λ (choice : Cond × Chart). (choice.0, diagram_of choice.1)) c.args.choices.now) (diagram_of c.args.last.now) in
+    let cs = cases_of (map (λ (choice : Condition × Chart). (choice.0, diagram_of choice.1)) c.args.choices.now) (diagram_of c.args.last.now) in
     let pushed = c.push_conditions.new.conditions.items in
     let pushed_is : pushed ≡ conds ++ conditions_of_cases cs =
-    c.in-Ok.ensures ∙ ap (λ (xs : List Cond). conds ++ xs) (conditions-are c.args.choices.now (diagram_of c.args.last.now)) in
+    c.in-Ok.ensures ∙ ap (λ (xs : List Condition). conds ++ xs) (conditions-are c.args.choices.now (diagram_of c.args.last.now)) in
     let size : length pushed ≡ length conds + length (conditions_of_cases cs) = ap length pushed_is ∙ length-append conds (conditions_of_cases cs) in
     let head : plain_head kind.Sel c.len-first.result ≡ plain_head kind.Sel (length conds) = ap (λ m. plain_head kind.Sel m) (omega (arith, c.len-first.ensures)) in
     let below : ℕ → ℕ → List Entry = λ m n. grown_cases told named m (length pushed) n 0 cs in
@@ -308,7 +308,7 @@ grow_loop-returns-clause-added t c =
     let pushed = c.push_condition.new.conditions.items in
     let pushed_is : pushed ≡ conds ++ c.args.turn.now.0 ∷ [] = c.in-Ok.ensures in
     c.in_ok-grow.ensures.added
-    ∙ (ap (λ (xs : List Cond). xs ++ chart_conditions acts level d) pushed_is ∙ append_assoc conds (c.args.turn.now.0 ∷ []) (chart_conditions acts level d))
+    ∙ (ap (λ (xs : List Condition). xs ++ chart_conditions acts level d) pushed_is ∙ append_assoc conds (c.args.turn.now.0 ∷ []) (chart_conditions acts level d))
 
 pub grow_loop-returns-in_err-grow-clause-grown : goal.grow_loop-returns-in_err-grow-clause-grown
 grow_loop-returns-in_err-grow-clause-grown t c =

@@ -14,11 +14,11 @@ returns-in_err-cell-clause-halted g c =
     let p = err_from_is_err_and c.from_residual-in_err-cell.result c.from_residual-in_err-cell.ensures.1 in
     rw (p.1, p.2) (inr (c.in_ok-read.read.desks, c.in_ok-read.ensures.read, inl c.in_err-cell.ensures.halted))
 
-pub returns-in_err-judge_units-clause-halted : goal.returns-in_err-judge_units-clause-halted
-returns-in_err-judge_units-clause-halted g c =
-    let p = err_from_is_err_and c.from_residual-in_err-judge_units.result c.from_residual-in_err-judge_units.ensures.1 in
+pub returns-in_err-look_up_units-clause-halted : goal.returns-in_err-look_up_units-clause-halted
+returns-in_err-look_up_units-clause-halted g c =
+    let p = err_from_is_err_and c.from_residual-in_err-look_up_units.result c.from_residual-in_err-look_up_units.ensures.1 in
     let cell = c.in_ok-cell.ensures.read in
-    rw (p.1, p.2) (inr (c.in_ok-read.read.desks, c.in_ok-read.ensures.read, inr (inl (c.in_ok-cell.cell, (cell.0, cell.1.0, cell.1.1), c.in_err-judge_units.ensures.refused))))
+    rw (p.1, p.2) (inr (c.in_ok-read.read.desks, c.in_ok-read.ensures.read, inr (inl (c.in_ok-cell.cell, (cell.0, cell.1.0, cell.1.1), c.in_err-look_up_units.ensures.refused))))
 
 pub returns-in_err-digested-clause-halted : goal.returns-in_err-digested-clause-halted
 returns-in_err-digested-clause-halted g c =
@@ -32,5 +32,5 @@ returns-clause-set g c =
     record {
       read = c.in_ok-read.ensures.read;
       cleared = c.in_ok-digested.ensures.digested _ cell.0 cell.1 (cell.2 [] c.new-digest.ensures);
-      units = subst (λ (x : Cell). HaveUnits (units_of x) c.in_ok-read.read.desks.desks.items) (sym c.in_ok-digested.ensures.cell) c.in_ok-judge_units.ensures.ok;
+      units = subst (λ (x : Cell). HaveUnits (units_of x) c.in_ok-read.read.desks.desks.items) (sym c.in_ok-digested.ensures.cell) c.in_ok-look_up_units.ensures.ok;
     }

@@ -1,11 +1,11 @@
 use Rattle.std.proofs.Common.{refl, sym, ◌∙◌, ap, Some, None}
 use Rattle.batch_chart.proofs.{NextMoves.next-sent, NextMoves.next-none, FirstMoves.sends-nothing, SignSearch.found, SignTests.of_states, SignTests.said-accepting}
-use Rattle.batch_model.specs.Moves.{passed_on}
+use Rattle.batch_model.specs.Moves.{command_passed_on}
 use Rattle.batch_matrix.specs.Matrix.{accepts}
 use Rattle.batch_chart.proofs.scene.Scene.next_send.Goals as goal
 
 pub returns-in-None : goal.returns-in-None
-returns-in-None c = next-none _ _ _ _ _ (λ t b q a. sends-nothing b (ap passed_on q.2 ∙ sym c.in-None.ensures) a)
+returns-in-None c = next-none _ _ _ _ _ (λ t b q a. sends-nothing b (ap command_passed_on q.2 ∙ sym c.in-None.ensures) a)
 
 pub returns-in-None-next : goal.returns-in-None-next
 returns-in-None-next c =

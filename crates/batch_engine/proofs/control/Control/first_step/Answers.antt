@@ -6,7 +6,7 @@ use Rattle.batch_signs.proofs.Bits.{within-or_past}
 pub returns-then-index-len : goal.returns-then-index-len
 returns-then-index-len c =
     let v : EngineView = c.args.self.now in
-    none-next v c.is_kept.ensures (λ j lt. elim (within-or_past j c.loop-index.from) [
+    none-next v c.recall_invariant.ensures (λ j lt. elim (within-or_past j c.loop-index.from) [
       | inl q ↦ c.loop-index.invariant.1 j q lt
       | inr q ↦ c.requires j lt (c.in-Some.ensures.3 j q (omega (arith, lt, c.len.ensures, c.if-index-len.true, ap (λ (z : EngineView). length z.batches) c.self.view_is)))
     ])
@@ -20,7 +20,7 @@ returns-in-Some-batch_step c =
       | inr q ↦ c.requires j (omega (arith, lt, less)) (c.in-Some.ensures.3 j q lt)
     ] in
     let here : index_of c.in-Some-batch_step.step ≡ c.in-Some.index = c.in-Some-batch_step.ensures.0 in (
-      step-map v (IsLeastAt v c.in-Some.index) (IsNext v) (λ m l. next-at v c.is_kept.ensures c.in-Some.index m before l) c.in-Some-batch_step.step c.in-Some-batch_step.ensures.1,
+      step-map v (IsLeastAt v c.in-Some.index) (IsNext v) (λ m l. next-at v c.recall_invariant.ensures c.in-Some.index m before l) c.in-Some-batch_step.step c.in-Some-batch_step.ensures.1,
       subst (λ n. n < length v.batches) (sym here) less,
       λ i lt. before i (subst (λ n. i < n) here lt),
     )
@@ -42,7 +42,7 @@ loop-index-preserved c =
 pub returns : goal.returns
 returns c =
     let v : EngineView = c.args.self.now in
-    none-next v c.is_kept.ensures (λ j lt. elim (within-or_past j c.loop-index.from) [
+    none-next v c.recall_invariant.ensures (λ j lt. elim (within-or_past j c.loop-index.from) [
       | inl q ↦ c.loop-index.invariant.1 j q lt
-      | inr q ↦ c.requires j lt (c.in_default.ensures j q (omega (arith, lt, few v c.is_kept.ensures)))
+      | inr q ↦ c.requires j lt (c.in_default.ensures j q (omega (arith, lt, few v c.recall_invariant.ensures)))
     ])

@@ -21,7 +21,7 @@ returns-in_err-resource c =
     let v : EngineView = c.args.self.now in
     let none : resource_number v.cleared c.args.unit.now ≡ None = searched (goal.at.returns-in_err-resource c).After-resource_of ∙ c.in_err-resource.was in
     subst (IsLivePhase v c.args.unit.now c.args.phase.now) (sym c.from_residual.ensures)
-    (live-nowhere v c.args.unit.now c.args.phase.now v.batches (live-no_unit v c.is_kept.ensures c.args.holders.now c.requires c.args.unit.now c.args.phase.now none))
+    (live-nowhere v c.args.unit.now c.args.phase.now v.batches (live-no_unit v c.recall_invariant.ensures c.args.holders.now c.requires c.args.unit.now c.args.phase.now none))
 
 pub returns-in_err-index : goal.returns-in_err-index
 returns-in_err-index c =
@@ -30,8 +30,8 @@ returns-in_err-index c =
     let unit : resource_number v.cleared c.args.unit.now ≡ Some c.in_ok-resource.resource = searched (goal.at.returns-in_err-index c).After-resource_of ∙ c.in_ok-resource.was in
     subst (IsLivePhase v c.args.unit.now c.args.phase.now) (sym c.from_residual-in_err-index.ensures)
     (live-nowhere v c.args.unit.now c.args.phase.now v.batches
-    (live-no_batch v c.is_kept.ensures hs c.requires c.args.unit.now c.args.phase.now c.in_ok-resource.resource (get_or hs c.from.result 0) unit
-    (noted-is v hs c.is_kept.ensures c.requires c.args.unit.now c.in_ok-resource.resource c.from.result unit c.from.ensures) (sym c.index_of.ensures ∙ c.in_err-index.was)))
+    (live-no_batch v c.recall_invariant.ensures hs c.requires c.args.unit.now c.args.phase.now c.in_ok-resource.resource (get_or hs c.from.result 0) unit
+    (noted-is v hs c.recall_invariant.ensures c.requires c.args.unit.now c.in_ok-resource.resource c.from.result unit c.from.ensures) (sym c.index_of.ensures ∙ c.in_err-index.was)))
 
 -- the live phase of the batch that is noted is the unit's, if there is one
 found-in : (v : EngineView) (unit name : Name) (i : ℕ) → ((j : ℕ) (d : Batch) → slice_get v.batches j ≡ Some d → (j ≡ i → ⊥) → live_in (model_batch v.cleared d) unit name (acts (model_batch v.cleared d).rest) ≡ None)
@@ -51,6 +51,6 @@ returns c =
     let hs : List ℕ = c.args.holders.now in
     let unit : resource_number v.cleared c.args.unit.now ≡ Some c.in_ok-resource.resource = searched (goal.at.returns c).After-resource_of ∙ c.in_ok-resource.was in
     found-in v c.args.unit.now c.args.phase.now c.in_ok-index.index
-    (live-elsewhere v c.is_kept.ensures hs c.requires c.args.unit.now c.args.phase.now c.in_ok-resource.resource (get_or hs c.from.result 0) unit
-    (noted-is v hs c.is_kept.ensures c.requires c.args.unit.now c.in_ok-resource.resource c.from.result unit c.from.ensures) c.in_ok-index.index (sym c.index_of.ensures ∙ c.in_ok-index.was))
+    (live-elsewhere v c.recall_invariant.ensures hs c.requires c.args.unit.now c.args.phase.now c.in_ok-resource.resource (get_or hs c.from.result 0) unit
+    (noted-is v hs c.recall_invariant.ensures c.requires c.args.unit.now c.in_ok-resource.resource c.from.result unit c.from.ensures) c.in_ok-index.index (sym c.index_of.ensures ∙ c.in_ok-index.was))
     c.live_in.result (c.live_in.ensures c.args.unit.now unit)

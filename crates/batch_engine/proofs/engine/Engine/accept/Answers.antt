@@ -13,10 +13,10 @@ invariant_of-self c =
     let settled : next (setup v.cleared) (plant_of v) ≡ None =
     subst (λ (z : EngineView). next (setup z.cleared) (plant_of z) ≡ None) (sym c.self.view_is) (c.if-not-settled.ensures.0 refl) in
     record {
-      kept = c.is_kept.ensures;
-      marked = marked-answered v w c.self.invariant.kept c.is_kept.ensures settled (event_of c.args.event.now) c.answer_event-reply.result c.answer_event-reply.ensures
+      kept = c.recall_invariant.ensures;
+      marked = marked-answered v w c.self.invariant.kept c.recall_invariant.ensures settled (event_of c.args.event.now) c.answer_event-reply.result c.answer_event-reply.ensures
           c.mark_answered.new.marks c.mark_answered.ensures;
-      noted_are = reply-kept v w c.self.invariant.kept c.is_kept.ensures c.self.inside.holders.items c.self.invariant.noted_are (event_of c.args.event.now) c.answer_event-reply.result c.answer_event-reply.ensures;
+      noted_are = reply-kept v w c.self.invariant.kept c.recall_invariant.ensures c.self.inside.holders.items c.self.invariant.noted_are (event_of c.args.event.now) c.answer_event-reply.result c.answer_event-reply.ensures;
     }
 
 pub returns : goal.returns

@@ -11,7 +11,7 @@ invariant_of-self g c =
       rest = λ d f. absurd (cc f);
       whole = λ d. whole_as _ _ (c.write_group.ensures.given d) (now.whole (c.write_group.ensures.stays d));
       recalled = λ d. let d0 = c.write_group.ensures.stays d in
-          recalled_on g.C.Run.documents g.C.Run.base _ _ _ _ _ _ (now.recalled d0) (c.write_group.ensures.time d)
+          recalled_on g.C.JournalRun.documents g.C.JournalRun.base _ _ _ _ _ _ (now.recalled d0) (c.write_group.ensures.time d)
           (λ left may. recalls_kept _ _ _ _ _ _ _ _ left (now.kept d0 c.requires.works) may.1);
       stays = λ d. now.stays (c.write_group.ensures.stays d);
     }
@@ -30,12 +30,12 @@ invariant_of-self-2 g c =
           let d0 = c.write_group.ensures.stays d in
           let written = c.in_ok-write_group.ensures.written d in
           ap (λ (l : List ℕ). length l)
-          (rest_kept g.C.Run.documents g.C.Run.base (g.D.Disk.durable c.write_group.new.disk) (g.D.Disk.seen c.write_group.new.disk) (g.D.Disk.given c.write_group.new.disk) c.args.lines.now _
+          (rest_kept g.C.JournalRun.documents g.C.JournalRun.base (g.D.Disk.durable c.write_group.new.disk) (g.D.Disk.seen c.write_group.new.disk) (g.D.Disk.given c.write_group.new.disk) c.args.lines.now _
           (kept_group _ _ _ _ _ _ _ _ _ _ _ _ _ (now.kept d0 c.requires.works) (none_in _ _ (now.rest d0 c.requires.works) c.requires.all_given)
           c.requires.lines c.next-sum.ensures.sum c.next-sum.ensures.line (search rules) written.0 written.1 (c.write_group.ensures.given d)));
       whole = λ d. whole_as _ _ (c.write_group.ensures.given d) (now.whole (c.write_group.ensures.stays d));
       recalled = λ d. let d0 = c.write_group.ensures.stays d in
-          recalled_on g.C.Run.documents g.C.Run.base _ _ _ _ _ _ (now.recalled d0) (c.write_group.ensures.time d)
+          recalled_on g.C.JournalRun.documents g.C.JournalRun.base _ _ _ _ _ _ (now.recalled d0) (c.write_group.ensures.time d)
           (λ left may. recalls_kept _ _ _ _ _ _ _ _ left (now.kept d0 c.requires.works) may.1);
       stays = λ d. now.stays (c.write_group.ensures.stays d);
     }
@@ -45,6 +45,6 @@ returns-clause-lines g c = λ d.
     let now = c.args.self.now in
     let d0 = c.write_group.ensures.stays d in
     let written = c.in_ok-write_group.ensures.written d in
-    rest_kept g.C.Run.documents g.C.Run.base (g.D.Disk.durable c.write_group.new.disk) (g.D.Disk.seen c.write_group.new.disk) (g.D.Disk.given c.write_group.new.disk) c.args.lines.now _
+    rest_kept g.C.JournalRun.documents g.C.JournalRun.base (g.D.Disk.durable c.write_group.new.disk) (g.D.Disk.seen c.write_group.new.disk) (g.D.Disk.given c.write_group.new.disk) c.args.lines.now _
     (kept_group _ _ _ _ _ _ _ _ _ _ _ _ _ (now.kept d0 c.requires.works) (none_in _ _ (now.rest d0 c.requires.works) c.requires.all_given)
     c.requires.lines c.next-sum.ensures.sum c.next-sum.ensures.line (search rules) written.0 written.1 (c.write_group.ensures.given d))

@@ -1,7 +1,7 @@
 use Rattle.std.proofs.Common.{subst}
 use Rattle.batch_reader.specs.declared.fault.DocFault.{DocFault}
 use Rattle.batch_verdicts.specs.{Judging.HaltsWith, Judging.document_kind, VerdictTexts.document_text}
-use Rattle.batch_verdicts.proofs.desks.judge_units.Goals as goal
+use Rattle.batch_verdicts.proofs.desks.look_up_units.Goals as goal
 
 pub returns-in-Err-clause-refused : goal.returns-in-Err-clause-refused
 returns-in-Err-clause-refused c = record {

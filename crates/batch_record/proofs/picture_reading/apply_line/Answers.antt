@@ -1,5 +1,5 @@
 use Rattle.batch_record.{specs.Reading.out_told, proofs.Lines.passed-on, proofs.Lines.told-on}
-use Rattle.batch_record.proofs.picture_reading.take_line.Goals as goal
+use Rattle.batch_record.proofs.picture_reading.apply_line.Goals as goal
 
 pub returns-in_ok-apply_out-in-Ok-Some : goal.returns-in_ok-apply_out-in-Ok-Some
 returns-in_ok-apply_out-in-Ok-Some c = told-on c.args.line.now (out_told c.in-Ok-Some.told) (rw c.in-Ok-Some.field-0-is at c.in-Ok-Some.ensures.ok).0 (rw c.in-Ok-Some.field-0-is at c.in-Ok-Some.ensures.read)

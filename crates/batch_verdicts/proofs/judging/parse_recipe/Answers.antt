@@ -1,5 +1,5 @@
-use Rattle.std.proofs.Common.{Err, ap}
-use Rattle.batch_verdicts.proofs.desks.judge_desks.Goals as goal
+use Rattle.std.proofs.Common.{Err, ap, rules}
+use Rattle.batch_verdicts.proofs.judging.parse_recipe.Goals as goal
 
 pub returns-in-Err-clause-refused : goal.returns-in-Err-clause-refused
 returns-in-Err-clause-refused c =
@@ -11,5 +11,5 @@ returns-in-Err-clause-refused c =
       long = λ beyond. let same = read.long beyond in cc;
       told = λ spot wrong is. read.told spot wrong (ap Err is);
       is_there = λ spot wrong is. read.stands spot wrong (ap Err is);
-      halts = c.document_halt.ensures;
+      halts = search rules;
     }

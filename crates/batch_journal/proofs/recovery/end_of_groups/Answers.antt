@@ -1,7 +1,7 @@
 use Rattle.std.proofs.Common.{◌≡◌, ◌+◌, ◌++◌, ◌∷◌, [], true, false, take, drop, slice_range, refl, sym, ◌∙◌, ap, subst, arith}
 use Rattle.std.proofs.lemmas.List.{length-drop}
 use Rattle.batch_journal.{specs.Journals.journal_format, specs.Journals.sum_text, specs.Journals.IsClosed, specs.Ends.EndsLine, specs.Lines.IsLine, specs.Lines.whole_lines_before_zero, proofs.LineLemmas.lines_both, proofs.GroupScan.none_left, proofs.GroupScan.none_closed, proofs.GroupScan.closed_there, proofs.GroupScan.begun_there, proofs.GroupScan.others_more, proofs.GroupScan.line_at, proofs.GroupScan.none_between, proofs.GroupScan.to_end}
-use Rattle.batch_journal.proofs.recovery.take_groups.Goals as goal
+use Rattle.batch_journal.proofs.recovery.end_of_groups.Goals as goal
 
 pub returns-then-not-closes : goal.returns-then-not-closes
 returns-then-not-closes c =

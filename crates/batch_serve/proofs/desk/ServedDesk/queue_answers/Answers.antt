@@ -1,6 +1,6 @@
 use Rattle.std.proofs.Common.{List, ℕ, ◌++◌, eqb, take, refl, sym, ◌∙◌, ap, subst, append-nil, arith}
 use Rattle.batch_serve.{specs.Runs.due_of, specs.Waits.IsAccount, proofs.TextLines.told_run}
-use Rattle.batch_serve.proofs.desk.Desk.queue_answers.Goals as goal
+use Rattle.batch_serve.proofs.desk.ServedDesk.queue_answers.Goals as goal
 
 pub loop-answer-init : goal.loop-answer-init
 loop-answer-init c = record { unit = refl; cut = λ uncut. uncut; account = λ all told h. subst (λ (l : List (List ℕ)). IsAccount l told c.args.self.now.waiting) (sym (append-nil all)) h }

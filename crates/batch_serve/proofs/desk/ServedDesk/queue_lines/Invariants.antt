@@ -1,7 +1,7 @@
 use Rattle.std.proofs.Common.{◌≡◌, ◌≤◌, List, ℕ, ◌++◌, filter, false, length}
 use Rattle.batch_serve.specs.{Dues.is_due, Waits.IsAccount}
 use Rattle.batch_wire.specs.Transcript.{whole_lines}
-use Rattle.batch_serve.proofs.desk.Desk.queue_lines.Given as goal
+use Rattle.batch_serve.proofs.desk.ServedDesk.queue_lines.Given as goal
 
 -- the first lines were told
 abbrev pub invariant-loop-at : goal.invariant-loop-at

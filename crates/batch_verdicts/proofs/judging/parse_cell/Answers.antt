@@ -1,5 +1,5 @@
 use Rattle.std.proofs.Common.{Err, ap, rules}
-use Rattle.batch_verdicts.proofs.judging.judge_cell.Goals as goal
+use Rattle.batch_verdicts.proofs.judging.parse_cell.Goals as goal
 
 pub returns-in-Err-clause-refused : goal.returns-in-Err-clause-refused
 returns-in-Err-clause-refused c =

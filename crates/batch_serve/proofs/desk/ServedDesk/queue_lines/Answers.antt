@@ -2,7 +2,7 @@ use Rattle.std.proofs.Common.{rules, arith, length, ◌+◌, List, ℕ, [], ◌�
 use Rattle.std.proofs.lemmas.List.{length-drop, take_rest}
 use Rattle.batch_serve.{specs.Dues.is_due, specs.Waits.IsAccount, proofs.TextLines.lines_more, proofs.TextLines.told_line, proofs.TextLines.whole_first, proofs.TextLines.whole_none}
 use Rattle.batch_wire.specs.Transcript.{whole_lines}
-use Rattle.batch_serve.proofs.desk.Desk.queue_lines.Goals as goal
+use Rattle.batch_serve.proofs.desk.ServedDesk.queue_lines.Goals as goal
 
 pub overflow_add-rest : goal.overflow_add-rest
 overflow_add-rest c = search (rules, c.in-Some.ensures.within, c.loop-at.invariant.within)

@@ -1,7 +1,7 @@
 use Rattle.std.proofs.Common.{◌∙◌, refl}
 use Rattle.std.proofs.lemmas.List.{with_items_is}
 use Rattle.batch_chart.proofs.RunningCharts.{stopped-runs}
-use Rattle.batch_chart.proofs.running.Running.stop_all.Goals as goal
+use Rattle.batch_chart.proofs.running.Running.withdraw_asks.Goals as goal
 
 pub returns : goal.returns
 returns c =

@@ -1,6 +1,6 @@
 use Rattle.std.proofs.Common.{◌≡◌, ℕ, ◌-◌, ◌≤◌, List, length, take, slice_range}
 use Rattle.batch_journal.specs.{Groups.AreOthers, Journals.journal_format, Journals.sum_text, Journals.IsClosed, Lines.AreLines, Lines.text_of}
-use Rattle.batch_journal.proofs.recovery.take_groups.Given as goal
+use Rattle.batch_journal.proofs.recovery.end_of_groups.Given as goal
 
 abbrev pub invariant-loop-len : goal.invariant-loop-len
 invariant-loop-len l = record {
