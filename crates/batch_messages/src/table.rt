@@ -88,7 +88,7 @@ static EXPLANATIONS: [Explanation; 52] = [
     Explanation {
         code: "E3",
         meaning: "the batch's state doesn't accept the command",
-        remedy: "wait for the state that takes it; the state of the batch is told behind the code",
+        remedy: "the state is told behind the code: `start` leads on from `idle`, `resume` from `paused`, `restart` from `held`, and `reset` from `complete`, `stopped` and `aborted`; wait until any other state ends",
     },
     Explanation {
         code: "E4",
