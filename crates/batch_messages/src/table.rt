@@ -133,7 +133,7 @@ static EXPLANATIONS: [Explanation; 52] = [
     Explanation {
         code: "E12",
         meaning: "a role isn't bound or is bound twice, a name that is bound is no role, or a unit isn't of its role's class",
-        remedy: "bind each role of the recipe once, as ROLE=UNIT, to a unit of its class",
+        remedy: "bind each role of the recipe once, as ROLE=UNIT, to a unit of its class; `batchd show` prints the roles of a recipe, as `on ROLE of CLASS`",
     },
     Explanation {
         code: "E13",
