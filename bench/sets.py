@@ -45,6 +45,7 @@ class Recipe:
     place: str = "unit"  # or "role"
     runs: dict = field(default_factory=dict)  # label: the phase that it runs, where that has another name
     reserves: dict = field(default_factory=dict)  # label: the unit procedures that it reserves
+    values: dict = field(default_factory=dict)  # label: the values that its phase is handed
 
     def document(self):
         lines = [f'recipe = "{self.name}"', 'version = "1"', "basis = 1000", *self.tables]
@@ -58,8 +59,8 @@ class Recipe:
         return "\n".join(lines) + "\n"
 
     def act(self, kind, label):
-        reserves = [f"reserves = {listed(self.reserves[label])}"] if label in self.reserves else []
-        return [f"[[{kind}]]", f'name = "{label}"', f"needs = {listed(self.needs.get(label, []))}", *reserves]
+        lists = {"needs": self.needs.get(label, []), "reserves": self.reserves.get(label), "values": self.values.get(label)}
+        return [f"[[{kind}]]", f'name = "{label}"', *(f"{key} = {listed(names)}" for key, names in lists.items() if names is not None)]
 
     def nodes(self):
         """The lines of its nodes for the plain engine; no list where that one can't run it."""
@@ -191,6 +192,12 @@ def outputs(count):
     """Each report sets so many of 64 outputs, the last ones, beside 64 inputs and 64 parameters."""
     pairs = "".join(f" {short_name('OUTPUT', 64 - count + number)}=7" for number in range(count))
     return Plant(["U"], ["A"], [work(row(700), tables=values(short_name))], begun("R"), [f"report U A done{pairs}"] * 300)
+
+
+def handed(count):
+    """Each phase is handed so many of 192 values at its start, the last ones."""
+    last = [short_name("OUTPUT", 64 - count + number) for number in range(count)]
+    return Plant(["U"], ["A"], [work(row(700), tables=values(short_name), values={"A": last})], begun("R"), done(600))
 
 
 def conditions(count, condition, name):
