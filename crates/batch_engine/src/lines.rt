@@ -19,25 +19,32 @@ use batch_matrix::Command;
 use batch_recipe::{MAX_VALUES, Recipe, Values, Work, act_at};
 use batch_text::Name;
 
-/// The values of these names; the entries after them mean nothing.
-fn values_of(names: &[Name], values: &Values) -> [u64; MAX_VALUES]
+/// The values of these names, each looked for at its position first; the entries after them mean nothing.
+fn values_of(names: &[Name], positions: [usize; MAX_VALUES], values: &Values) -> [u64; MAX_VALUES]
     requires { length names.now ≤ MAX_VALUES }
     ensures { zip names.now result ≡ handed_values values.now names.now }
 {
     let mut handed = [0; MAX_VALUES];
     for index in 0..names.len() {
-        handed[index] = values.value_of(&names[index]).unwrap_or(0);
+        handed[index] = values
+            .value_from(positions[index], &names[index])
+            .unwrap_or(0);
     }
     handed
 }
 
 /// The values that the phase of a phase step is handed; the entries after them mean nothing.
-fn handed(recipe: &Recipe, node: u16, values: &Values) -> [u64; MAX_VALUES]
+fn handed(
+    recipe: &Recipe,
+    positions: [usize; MAX_VALUES],
+    node: u16,
+    values: &Values,
+) -> [u64; MAX_VALUES]
     ensures { zip (handed_of (node_of node recipe.now)) result ≡ handed_values values.now (handed_of (node_of node recipe.now)) }
 {
     match act_at(recipe, node) {
         Some(act) => match &act.work {
-            Work::Runs { values: names, .. } => values_of(names, values),
+            Work::Runs { values: names, .. } => values_of(names, positions, values),
             Work::Follows(_) => [0; MAX_VALUES],
         },
         None => [0; MAX_VALUES],
@@ -112,14 +119,17 @@ impl Control {
         ensures { Tells self.now batch.now (Moves.Start node) result }
     {
         let PhaseNumber { unit, phase } = self.phase_at(batch, node);
+        let set = self.cleared.linked();
+        let own = &set.recipes[usize::from(batch.recipe)];
         let recipe = self.cleared.recipe(batch.recipe);
+        let entry = &recipe.outline.entries[usize::from(node)];
         Line::Start {
             batch: batch.number,
             recipe: batch.recipe,
             node,
             unit,
             phase,
-            values: handed(recipe, node, &batch.values),
+            values: handed(recipe, own.positions(entry.kind), node, &batch.values),
         }
     }
 

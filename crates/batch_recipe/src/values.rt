@@ -39,7 +39,8 @@ impl Values {
     }
 
     /// The value with this name, looked for at the position first.
-    pub(crate) fn value_from(&self, position: usize, name: &Name) -> Option<u64>
+    // claim: values by name
+    pub fn value_from(&self, position: usize, name: &Name) -> Option<u64>
         ensures { result ≡ value_of self.now name.now }
     {
         match self.entries.get(position) {

@@ -3,7 +3,7 @@ ghost use Rattle.std.specs.Prelude.{◌≡◌};
 ghost use Rattle.batch_set.specs.Looked.{needs_by, number_for, phase_on, row_at, rows_at, unit_procedure_source};
 
 use crate::cell_phases::CellPhases;
-use batch_recipe::{Kind, LabelTable};
+use batch_recipe::{Kind, LabelTable, MAX_VALUES};
 
 /// The source of the units of a need.
 #[derive(Clone, Copy)]
@@ -48,6 +48,9 @@ pub struct LinkedRecipe {
     pub candidates: Vec<Vec<u16>>,
     /// The number of each phase step's phase among the phases of the cell. None if no unit offers it.
     pub runs: Vec<Option<usize>>,
+    /// The positions at which a batch has the values that the phase of each phase step is handed, as hints; those after them mean
+    /// nothing.
+    pub handed: Vec<[usize; MAX_VALUES]>,
 }
 
 impl Drop for LinkedRecipe {
@@ -59,6 +62,7 @@ impl Drop for LinkedRecipe {
             phases: _,
             candidates: _,
             runs: _,
+            handed: _,
         } = self;
     }
 }
@@ -112,6 +116,16 @@ impl LinkedRecipe {
         match self.needs(act).first() {
             Some(need) => need.source,
             None => Source::Unknown,
+        }
+    }
+
+    /// The positions at which a batch has the values that the phase of the act of this kind is handed, as hints.
+    pub fn positions(&self, kind: Kind) -> [usize; MAX_VALUES] {
+        match kind {
+            Kind::Act(LabelTable::Phases, step) => {
+                self.handed.get(step).copied().unwrap_or([0; MAX_VALUES])
+            }
+            _ => [0; MAX_VALUES],
         }
     }
 

@@ -7,7 +7,7 @@ ghost use Rattle.batch_set.specs.Linking.{IsLinked, by_role, candidate_numbers, 
 use crate::cell_phases::CellPhases;
 use crate::linked::{LinkedNeed, LinkedRecipe, Source};
 use batch_cell::Cell;
-use batch_recipe::{Act, Need, Recipe, Role, UnitChoice, act_named};
+use batch_recipe::{Act, MAX_VALUES, Need, Recipe, Role, UnitChoice, Work, act_named};
 use batch_text::Name;
 use std::alloc::{AllocError, Global};
 
@@ -166,6 +166,31 @@ fn link_runs(
     Ok(runs)
 }
 
+/// The position at which a batch of the recipe has the value with this name. A name that isn't there gets 0.
+fn value_position(recipe: &Recipe, name: &Name) -> usize {
+    let quantities = recipe.inputs.iter().chain(&recipe.parameters);
+    quantities
+        .map(|quantity| &quantity.name)
+        .chain(&recipe.outputs)
+        .position(|value| *value == *name)
+        .unwrap_or(0)
+}
+
+/// The positions at which a batch of the recipe has the values that the phase of each phase step is handed.
+fn link_handed(alloc: Global, recipe: &Recipe) -> Result<Vec<[usize; MAX_VALUES]>, AllocError> {
+    let mut handed = Vec::with_capacity(alloc, recipe.acts.phases.len())?;
+    for act in &recipe.acts.phases {
+        let mut positions = [0; MAX_VALUES];
+        if let Work::Runs { values, .. } = &act.work {
+            for (position, name) in positions.iter_mut().zip(values) {
+                *position = value_position(recipe, name);
+            }
+        }
+        handed.push(positions)?;
+    }
+    Ok(handed)
+}
+
 /// The recipe by the numbers of the resources, units and phases that it names in the cell. `phases` are those of the cell.
 // claim: linked recipe
 pub fn link(
@@ -184,5 +209,6 @@ pub fn link(
         phases: link_table(alloc, cell, recipe, &acts.phases)?,
         candidates: link_roles(alloc, cell, &recipe.roles)?,
         runs: link_runs(alloc, phases, &acts.phases)?,
+        handed: link_handed(alloc, recipe)?,
     })
 }

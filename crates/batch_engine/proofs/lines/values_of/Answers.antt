@@ -11,9 +11,9 @@ loop-index-preserved c =
     let name : Name = c.index-names-index.result in
     let small : i < length c.loop-index.handed = omega (arith, c.loop-index.invariant.0, c.requires, c.loop-index-test.true) in
     let at : slice_get c.args.names.now i ≡ Some name = slice_get_read c.args.names.now (length c.args.names.now) i name refl c.loop-index-test.true c.index-names-index.is in
-    let read : c.value_of.result ≡ value_of vs (get_or c.args.names.now i []) = c.value_of.ensures ∙ ap (value_of vs) (sym (get_or_from_slice_get c.args.names.now i name [] at)) in
+    let read : c.value_from.result ≡ value_of vs (get_or c.args.names.now i []) = c.value_from.ensures ∙ ap (value_of vs) (sym (get_or_from_slice_get c.args.names.now i name [] at)) in
     let value : c.unwrap_or.result ≡ value_or_0 vs (get_or c.args.names.now i []) =
-    c.unwrap_or.ensures ∙ or-zero c.value_of.result ∙ ap (λ (o : Option ℕ). let n : ℕ = elim o [ None ↦ 0 | Some n ↦ n ] in n) read in (
+    c.unwrap_or.ensures ∙ or-zero c.value_from.result ∙ ap (λ (o : Option ℕ). let n : ℕ = elim o [ None ↦ 0 | Some n ↦ n ] in n) read in (
       length-set c.loop-index.handed i c.unwrap_or.result ∙ c.loop-index.invariant.0,
       set-value vs c.args.names.now c.loop-index.handed i c.unwrap_or.result small value c.loop-index.invariant.1,
     )
