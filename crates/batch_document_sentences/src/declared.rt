@@ -1,16 +1,18 @@
 //! The names that a document declares.
+use crate::entry::Entry;
 use crate::hints::is_of_words;
-use crate::kinds::{OF_RECIPES, VALUES, word_of};
+use crate::kinds::{VALUES, kinds_below};
 use batch_reader::{Spot, TableKind, is_chart_word};
 use batch_text::is_name;
 use std::alloc::{AllocError, Global};
 use toml::{Table, Value};
 
-/// The list that the table has under this key, as are a document's tables of a word; an empty one if it has none.
+/// The list that the table has under this key, as are a document's tables of a word. A value that is no list is the only one of it.
 pub(crate) fn list_at<'a>(table: &'a Table, key: &str) -> &'a [Value] {
     match table.get(key) {
         Some(Value::Array(values)) => values,
-        _ => &[],
+        Some(value) => std::slice::from_ref(value),
+        None => &[],
     }
 }
 
@@ -24,230 +26,116 @@ fn name_in(table: &Value) -> Option<&str> {
     table.get("name")?.as_str()
 }
 
-/// The word of the first kind of a recipe's tables of which one has this name.
-pub(crate) fn word_declaring(document: &Table, name: &str) -> Option<&'static str> {
-    for kind in OF_RECIPES {
-        if is_among(document, kind.word(), name) {
-            return Some(kind.word());
-        }
-    }
-    None
-}
-
 /// The first table of these kinds with this name.
 pub(crate) fn first_named(document: &Table, kinds: &[TableKind], name: &str) -> Option<Spot> {
-    for kind in kinds {
-        let tables = list_at(document, word_of(*kind).unwrap_or(""));
-        for (entry, table) in tables.iter().enumerate() {
-            if name_in(table) == Some(name) {
-                return Some(Spot { kind: *kind, entry });
-            }
-        }
-    }
-    None
+    kinds.iter().find_map(|kind| {
+        let mut tables = list_at(document, kind.word()).iter();
+        let entry = tables.position(|table| name_in(table) == Some(name))?;
+        Some(Spot { kind: *kind, entry })
+    })
 }
 
-/// Whether a table of the word has this name.
-fn is_among(document: &Table, word: &str, name: &str) -> bool {
-    for table in list_at(document, word) {
-        if name_in(table) == Some(name) {
-            return true;
-        }
-    }
-    false
-}
-
-/// The role that the table names, if the document doesn't declare it.
-pub(crate) fn undeclared_role<'a>(document: &Table, table: &'a Table) -> Option<&'a str> {
-    let role = text_at(table, "role")?;
-    if is_among(document, "role", role) {
-        None
-    } else {
-        Some(role)
-    }
-}
-
-/// The first name of the table's list at this key that no table of this word of the document has.
-pub(crate) fn undeclared_listed<'a>(
-    document: &Table,
-    table: &'a Table,
-    key: &str,
-    word: &str,
-) -> Option<&'a str> {
-    for value in list_at(table, key) {
-        if let Some(name) = value.as_str() {
-            if !is_among(document, word, name) {
-                return Some(name);
-            }
-        }
-    }
-    None
-}
-
-/// The names of the document's tables of this word.
-pub(crate) fn names_among<'a>(
+/// The names of the document's tables of these kinds.
+pub(crate) fn names_of<'a>(
     alloc: Global,
     document: &'a Table,
-    word: &str,
+    kinds: &[TableKind],
 ) -> Result<Vec<&'a str>, AllocError> {
-    let mut names = Vec::new(alloc);
-    for table in list_at(document, word) {
-        if let Some(name) = name_in(table) {
-            names.push(name)?;
-        }
-    }
-    Ok(names)
-}
-
-/// The names of the document's values.
-pub(crate) fn value_names(alloc: Global, document: &Table) -> Result<Vec<&str>, AllocError> {
-    let mut names = Vec::new(alloc);
-    for kind in VALUES {
-        for table in list_at(document, kind.word()) {
-            if let Some(name) = name_in(table) {
-                names.push(name)?;
-            }
-        }
-    }
-    Ok(names)
-}
-
-/// The first text that the table's list under this key has twice.
-pub(crate) fn listed_twice<'a>(table: &'a Table, key: &str) -> Option<&'a str> {
-    let values = list_at(table, key);
-    for value in values {
-        if let Some(text) = value.as_str() {
-            if times_in(values, text) > 1 {
-                return Some(text);
-            }
-        }
-    }
-    None
-}
-
-/// The number of times that the list has the text.
-fn times_in(values: &[Value], text: &str) -> usize {
-    let mut times: usize = 0;
-    for value in values {
-        if value.as_str() == Some(text) {
-            times = times.saturating_add(1);
-        }
-    }
-    times
-}
-
-/// The first phase of the module that an earlier module of this unit offers, and the name of that module.
-pub(crate) fn offered_before<'a>(
-    document: &'a Table,
-    unit: &str,
-    module: &'a Table,
-) -> Option<(&'a str, &'a str)> {
-    for value in list_at(module, "phases") {
-        if let Some(phase) = value.as_str() {
-            if let Some(other) = module_offering(document, unit, phase) {
-                if Some(other) != text_at(module, "name") {
-                    return Some((phase, other));
-                }
-            }
-        }
-    }
-    None
-}
-
-/// The name of the first module of the unit that offers the phase.
-fn module_offering<'a>(document: &'a Table, unit: &str, phase: &str) -> Option<&'a str> {
-    for module in list_at(document, "module") {
-        if let Some(module) = module.as_table() {
-            let is_own = text_at(module, "unit") == Some(unit);
-            if is_own && times_in(list_at(module, "phases"), phase) > 0 {
-                return text_at(module, "name");
-            }
-        }
-    }
-    None
-}
-
-/// The word of the tables that the labels of a chart of this kind name. Tables without a chart have none.
-pub(crate) fn word_below(kind: TableKind) -> Option<&'static str> {
-    match kind {
-        TableKind::Procedure => Some("unit_procedure"),
-        TableKind::UnitProcedure => Some("operation"),
-        TableKind::Operation => Some("phase"),
-        _ => None,
-    }
+    kinds
+        .iter()
+        .flat_map(|kind| list_at(document, kind.word()))
+        .filter_map(name_in)
+        .collect(alloc)
 }
 
 /// A name that a chart, or a list of values, has.
 #[derive(Clone, Copy)]
 pub(crate) struct Reference<'a> {
+    /// The key of the chart or the list.
+    pub(crate) key: &'static str,
     pub(crate) name: &'a str,
-    /// Whether it is to name a value, as in a condition, and not an act.
-    pub(crate) is_value: bool,
+    /// The kinds of the tables that it may name.
+    pub(crate) kinds: &'static [TableKind],
 }
 
-/// The first name of the table's chart, or of its values, that isn't declared as the value or act that it is to name.
-pub(crate) fn undeclared_name<'a>(
-    document: &Table,
-    table: &'a Table,
-    kind: TableKind,
-) -> Option<Reference<'a>> {
-    match word_below(kind) {
-        Some(below) => undeclared_part(document, table, below),
-        None => undeclared_value(document, table),
+impl<'a> Entry<'a> {
+    /// The first name of the table's text or list under this key that no table of these kinds has.
+    pub(crate) fn undeclared_at(self, key: &str, kinds: &[TableKind]) -> Option<&'a str> {
+        list_at(self.table, key)
+            .iter()
+            .filter_map(Value::as_str)
+            .find(|name| first_named(self.document, kinds, name).is_none())
     }
-}
 
-/// The first of the table's values that isn't declared.
-fn undeclared_value<'a>(document: &Table, table: &'a Table) -> Option<Reference<'a>> {
-    for value in list_at(table, "values") {
-        if let Some(name) = value.as_str() {
-            if !is_value(document, name) {
+    /// The first name of the table's chart, or of its values, that isn't declared as the value or act that it is to name.
+    pub(crate) fn undeclared_name(self) -> Option<Reference<'a>> {
+        match text_at(self.table, "chart") {
+            Some(chart) => self.undeclared_in(chart),
+            None => Some(Reference {
+                key: "values",
+                name: self.undeclared_at("values", &VALUES)?,
+                kinds: &VALUES,
+            }),
+        }
+    }
+
+    /// The first name of the table's chart that is no value in a condition, or else names no table of the kind below.
+    fn undeclared_in(self, chart: &'a str) -> Option<Reference<'a>> {
+        let mut rest = chart;
+        for _ in 0..chart.len() {
+            let (before, name, behind) = word_in(rest)?;
+            let kinds = if is_compared(before, behind) {
+                &VALUES
+            } else {
+                kinds_below(self.spot.kind)
+            };
+            if is_reference(name) && first_named(self.document, kinds, name).is_none() {
                 return Some(Reference {
+                    key: "chart",
                     name,
-                    is_value: true,
+                    kinds,
                 });
             }
+            rest = behind;
         }
+        None
     }
-    None
-}
 
-/// The first name of the table's chart that is no value in a condition, or else names no table of the word below.
-fn undeclared_part<'a>(document: &Table, table: &'a Table, below: &str) -> Option<Reference<'a>> {
-    let chart = text_at(table, "chart")?;
-    let mut rest = chart;
-    for _ in 0..chart.len() {
-        let (before, name, behind) = word_in(rest)?;
-        let reference = Reference {
-            name,
-            is_value: is_compared(before, behind),
-        };
-        if is_reference(name) && !is_declared(document, below, reference) {
-            return Some(reference);
-        }
-        rest = behind;
+    /// The first phase of the module that an earlier module of its unit offers, and the name of that module.
+    pub(crate) fn offered_before(self) -> Option<(&'a str, &'a str)> {
+        let mut phases = list_at(self.table, "phases")
+            .iter()
+            .filter_map(Value::as_str);
+        phases.find_map(|phase| {
+            let other = self.module_offering(phase)?;
+            (other != self.text_at("name")).then_some((phase, other))
+        })
     }
-    None
+
+    /// The name of the first module of the module's unit that offers the phase.
+    fn module_offering(self, phase: &str) -> Option<&'a str> {
+        let unit = self.text_at("unit");
+        let mut modules = list_at(self.document, "module")
+            .iter()
+            .filter_map(Value::as_table);
+        let module = modules.find(|module| {
+            text_at(module, "unit") == Some(unit) && times_at(module, "phases", phase) > 0
+        })?;
+        text_at(module, "name")
+    }
 }
 
 /// The text before the first word, this word, and the text behind it.
 fn word_in(text: &str) -> Option<(&str, &str, &str)> {
-    let begin = text.find(is_of_words)?;
-    let before = text.get(..begin)?;
-    let tail = text.get(begin..)?;
+    let (before, tail) = text.split_at_checked(text.find(is_of_words)?)?;
     let behind = tail.trim_start_matches(is_of_words);
-    let word = tail.get(..tail.len().checked_sub(behind.len())?)?;
-    Some((before, word, behind))
+    Some((before, tail.strip_suffix(behind)?, behind))
 }
 
 /// Whether an operator ends the text before a word of a chart, or begins the text behind it.
 fn is_compared(before: &str, behind: &str) -> bool {
-    before.trim_end().ends_with(is_operator) || behind.trim_start().starts_with(is_operator)
-}
-
-/// Whether operators of charts have this letter.
-fn is_operator(letter: char) -> bool {
-    letter == '<' || letter == '>' || letter == '=' || letter == '/'
+    let operators = ['<', '>', '=', '/'];
+    before.trim_end().ends_with(operators) || behind.trim_start().starts_with(operators)
 }
 
 /// Whether the word of a chart is a name.
@@ -255,20 +143,14 @@ fn is_reference(word: &str) -> bool {
     is_name(word.as_bytes()) && !is_chart_word(word.as_bytes())
 }
 
-/// Whether the document declares the name for the thing that it is to name: a value, or a table of the word below.
-fn is_declared(document: &Table, below: &str, reference: Reference<'_>) -> bool {
-    if reference.is_value {
-        is_value(document, reference.name)
-    } else {
-        is_among(document, below, reference.name)
-    }
+/// The first text that the table's list under this key has twice.
+pub(crate) fn listed_twice<'a>(table: &'a Table, key: &str) -> Option<&'a str> {
+    let mut texts = list_at(table, key).iter().filter_map(Value::as_str);
+    texts.find(|text| times_at(table, key, text) > 1)
 }
 
-fn is_value(document: &Table, name: &str) -> bool {
-    for kind in VALUES {
-        if is_among(document, kind.word(), name) {
-            return true;
-        }
-    }
-    false
+/// The number of times that the table's list under this key has the text.
+fn times_at(table: &Table, key: &str, text: &str) -> usize {
+    let values = list_at(table, key).iter();
+    values.filter(|value| value.as_str() == Some(text)).count()
 }

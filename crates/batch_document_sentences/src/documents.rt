@@ -1,8 +1,8 @@
 //! The faults of a document, in words.
-use crate::entries::{tables_of, wrong_at};
-use crate::kinds::{is_word_of_several, word_of};
+use crate::entries::wrong_at;
+use crate::kinds::{is_word_of_several, kind_said};
 use crate::lines::line_of;
-use batch_reader::{DocFault, EntryFault, MAX_DOCUMENT_LEN, Spot};
+use batch_reader::{DocFault, EntryFault, MAX_DOCUMENT_LEN, Spot, TableKind};
 use batch_wording::{Sentence, header_in};
 use std::alloc::{AllocError, Global};
 use toml::Table;
@@ -42,12 +42,25 @@ fn refused_said(
     spot: Spot,
     fault: EntryFault,
 ) -> Result<String, AllocError> {
-    match parts_of(alloc, bytes) {
-        Some((text, document)) => match exchanged(asked, &document) {
-            Some(said) => String::from_str(alloc, said),
-            None => entry_said(alloc, text, &document, spot, fault),
-        },
-        None => format!(in alloc; "it is longer than {MAX_DOCUMENT_LEN} bytes"),
+    let Some((text, document)) = parts_of(alloc, bytes) else {
+        return format!(in alloc; "it is longer than {MAX_DOCUMENT_LEN} bytes");
+    };
+    let (own, place) = asked.place();
+    let mut kinds = ["cell", "recipe"].iter();
+    match kinds.find(|kind| **kind != own && document.contains_key(**kind)) {
+        Some(kind) => format!(in alloc; "this is a {kind}, and {place}"),
+        None => entry_said(alloc, text, &document, spot, fault),
+    }
+}
+
+impl Asked {
+    /// The key that documents of the kind have at their top, and the words on their place.
+    fn place(self) -> (&'static str, &'static str) {
+        match self {
+            Asked::Cell => ("cell", "the cell is to stand here: the cell comes first"),
+            Asked::Recipe => ("recipe", "a recipe is to stand here: the cell comes first"),
+            Asked::Desks => ("desk", "the desks are to stand here: they come first"),
+        }
     }
 }
 
@@ -65,41 +78,27 @@ fn toml_said(alloc: Global, bytes: &[u8]) -> Result<String, AllocError> {
     }
 }
 
+/// The message of TOML, in one line.
 fn error_said(alloc: Global, bytes: &[u8], error: &Error) -> Result<String, AllocError> {
     let told = format!(in alloc; "{error}")?;
-    let said = lines_said(alloc, told.as_str())?;
+    let lines: Vec<&str> = told.lines().collect(alloc)?;
+    let said = lines.join(alloc, ": ")?;
     let text = std::str::from_utf8(bytes).unwrap_or("");
     match single_header(text) {
         Some(word) if told.contains("duplicate key") => format!(in alloc;
-            "{said}; the header is [[{word}]], since a document may have several of these tables"
+            "it is no TOML: {said}; the header is [[{word}]], since a document may have several of these tables"
         ),
-        _ => Ok(said),
+        _ => format!(in alloc; "it is no TOML: {said}"),
     }
 }
 
 /// The word of the first header with single brackets that is to have double ones.
 fn single_header(text: &str) -> Option<&str> {
-    for line in text.lines() {
-        let line = line.trim();
-        if !line.starts_with("[[") {
-            if let Some(word) = header_in(line) {
-                if is_word_of_several(word) {
-                    return Some(word);
-                }
-            }
-        }
-    }
-    None
-}
-
-/// The message of TOML, in one line.
-fn lines_said(alloc: Global, told: &str) -> Result<String, AllocError> {
-    let mut said = String::from_str(alloc, "it is no TOML")?;
-    for line in told.lines() {
-        said.push_str(": ")?;
-        said.push_str(line)?;
-    }
-    Ok(said)
+    text.lines()
+        .map(|line| line.trim())
+        .filter(|line| !line.starts_with("[["))
+        .filter_map(header_in)
+        .find(|word| is_word_of_several(word))
 }
 
 /// The text of a document, and its content as TOML. None of one that is too long.
@@ -112,25 +111,7 @@ fn parts_of(alloc: Global, bytes: &[u8]) -> Option<(&str, Table)> {
     Some((text, document))
 }
 
-fn exchanged(asked: Asked, document: &Table) -> Option<&'static str> {
-    match asked {
-        Asked::Cell if document.contains_key("recipe") => {
-            Some("this is a recipe, and the cell is to stand here: the cell comes first")
-        }
-        Asked::Recipe if document.contains_key("cell") => {
-            Some("this is a cell, and a recipe is to stand here: the cell comes first")
-        }
-        Asked::Desks if document.contains_key("cell") => {
-            Some("this is a cell, and the desks are to stand here: they come first")
-        }
-        Asked::Desks if document.contains_key("recipe") => {
-            Some("this is a recipe, and the desks are to stand here: they come first")
-        }
-        _ => None,
-    }
-}
-
-/// The place of the fault, and the fault in words.
+/// The line and the table of the fault, and the fault in words.
 fn entry_said(
     alloc: Global,
     text: &str,
@@ -139,20 +120,9 @@ fn entry_said(
     fault: EntryFault,
 ) -> Result<String, AllocError> {
     let wrong = wrong_at(alloc, text, document, spot, fault)?;
-    let tables = tables_of(document, spot.kind);
-    let line = line_of(text, spot, tables, wrong.key);
-    wrong_said(alloc, spot, line, wrong.mistake.as_str())
-}
-
-/// The line, the table at the spot, and the words on its fault.
-fn wrong_said(
-    alloc: Global,
-    spot: Spot,
-    line: Option<usize>,
-    mistake: &str,
-) -> Result<String, AllocError> {
+    let mistake = wrong.mistake;
     let table = table_said(alloc, spot)?;
-    match line {
+    match line_of(text, document, spot, wrong.key) {
         Some(line) => format!(in alloc; "line {line}, {table}: {mistake}"),
         None => format!(in alloc; "{table}: {mistake}"),
     }
@@ -160,12 +130,13 @@ fn wrong_said(
 
 /// The table at the spot, counted from 1.
 pub(crate) fn table_said(alloc: Global, spot: Spot) -> Result<String, AllocError> {
-    match word_of(spot.kind) {
-        None => String::from_str(alloc, "at the top"),
-        Some("procedure") => String::from_str(alloc, "[procedure]"),
-        Some(word) => {
+    let kind = kind_said(alloc, spot.kind)?;
+    match spot.kind {
+        TableKind::Cell | TableKind::Recipe => format!(in alloc; "at {kind}"),
+        TableKind::Procedure => Ok(kind),
+        _ => {
             let number = spot.entry.saturating_add(1);
-            format!(in alloc; "[[{word}]] number {number}")
+            format!(in alloc; "{kind} number {number}")
         }
     }
 }

@@ -1,10 +1,8 @@
 //! The faults of a document's table.
-use crate::charts::{no_chart_said, number_said};
 use crate::declared::text_at;
+use crate::entry::Entry;
 use crate::fits::{Fit, form_said, given_said, value_fit};
 use crate::kinds::{kind_said, kinds_beside, word_of};
-use crate::lines::line_of;
-use crate::names_declared::{duplicate, undeclared};
 use crate::needs::{need_out_of_limit, unreadable_need};
 use batch_reader::{EntryFault, Key, Spot, TableKind, is_chart_word, keys_of, may_stand};
 use batch_recipe::{MAX_NEED_UNITS, MAX_NODES};
@@ -74,26 +72,22 @@ pub(crate) fn wrong_at<'a>(
     let Some(table) = entry_at(document, spot) else {
         return no_table(alloc, document, spot.kind);
     };
+    let entry = Entry {
+        alloc,
+        text,
+        document,
+        spot,
+        table,
+    };
     match fault {
         EntryFault::MissingKey => missing(alloc, keys, table, spot.kind),
         EntryFault::WrongKind => wrong_kind(alloc, keys, document, table, spot.kind),
         EntryFault::UnknownKey => unknown(alloc, keys, table, spot.kind),
-        EntryFault::Undeclared => undeclared(alloc, document, table, spot.kind),
-        EntryFault::Duplicate => duplicate(alloc, text, document, table, spot),
-        EntryFault::OutOfLimit => {
-            let line = chart_line(text, document, spot);
-            out_of_limit(alloc, keys, text, line, table, spot)
-        }
-        EntryFault::Chart(byte) => {
-            let line = chart_line(text, document, spot);
-            no_chart(alloc, text, line, table, byte, spot.kind)
-        }
+        EntryFault::Undeclared => entry.undeclared(),
+        EntryFault::Duplicate => entry.duplicate(),
+        EntryFault::OutOfLimit => out_of_limit(entry, keys),
+        EntryFault::Chart(byte) => Wrong::with("chart", entry.no_chart_said(byte)),
     }
-}
-
-/// The line of the chart of the table at the spot.
-fn chart_line(text: &str, document: &Table, spot: Spot) -> Option<usize> {
-    line_of(text, spot, tables_of(document, spot.kind), "chart")
 }
 
 /// Says that the document has no table of this kind.
@@ -288,14 +282,8 @@ fn unfit(
     )
 }
 
-fn out_of_limit(
-    alloc: Global,
-    keys: &[Key],
-    text: &str,
-    line: Option<usize>,
-    table: &Table,
-    spot: Spot,
-) -> Result<Wrong<'static>, AllocError> {
+fn out_of_limit(entry: Entry<'_>, keys: &[Key]) -> Result<Wrong<'static>, AllocError> {
+    let Entry { alloc, table, .. } = entry;
     if let Some(key) = first_unfit(keys, table, Fit::OutOfLimit) {
         return unfit(alloc, key, "is out of its limits: it has to be", table);
     }
@@ -313,23 +301,16 @@ fn out_of_limit(
         (Some(least), Some(greatest)) if least > greatest => {
             Wrong::from_str(alloc, "min", "`min` is above `max`")
         }
-        _ => chart_out_of_limit(alloc, text, line, table, spot),
+        _ => chart_out_of_limit(entry),
     }
 }
 
 /// Says that a number of the table's chart is out of its limits, or that the acts are too many, or the tables. In the last case the
 /// spot is that of the first table too many.
-fn chart_out_of_limit(
-    alloc: Global,
-    text: &str,
-    line: Option<usize>,
-    table: &Table,
-    spot: Spot,
-) -> Result<Wrong<'static>, AllocError> {
-    if let Some(chart) = text_at(table, "chart") {
-        if let Some(said) = number_said(alloc, text, line, chart)? {
-            return Wrong::with("chart", Ok(said));
-        }
+fn chart_out_of_limit(entry: Entry<'_>) -> Result<Wrong<'static>, AllocError> {
+    let Entry { alloc, spot, .. } = entry;
+    if let Some(said) = entry.number_said()? {
+        return Wrong::with("chart", Ok(said));
     }
     let said = match spot.kind {
         TableKind::Procedure => format!(in alloc;
@@ -338,18 +319,6 @@ fn chart_out_of_limit(
         _ => format!(in alloc; "a document has at most {} of these tables", spot.entry),
     };
     Wrong::with("", said)
-}
-
-fn no_chart(
-    alloc: Global,
-    text: &str,
-    line: Option<usize>,
-    table: &Table,
-    byte: usize,
-    kind: TableKind,
-) -> Result<Wrong<'static>, AllocError> {
-    let chart = text_at(table, "chart").unwrap_or("");
-    Wrong::with("chart", no_chart_said(alloc, text, line, chart, byte, kind))
 }
 
 /// The first of the keys whose value has this fit.

@@ -32,19 +32,10 @@ pub(crate) const OF_RECIPES: [TableKind; 9] = [
 
 const OF_DESKS: [TableKind; 1] = [TableKind::Desk];
 
-/// Whether a document may have several tables of this word.
+/// Whether a document may have several tables of this word: one of these kinds, and not that of procedures, has it.
 pub(crate) fn is_word_of_several(word: &str) -> bool {
-    has_word(&OF_CELLS, word) || has_word(&OF_RECIPES, word) || has_word(&OF_DESKS, word)
-}
-
-/// Whether one of these kinds, and not that of procedures, has the word.
-fn has_word(kinds: &[TableKind], word: &str) -> bool {
-    for kind in kinds {
-        if *kind != TableKind::Procedure && word_of(*kind) == Some(word) {
-            return true;
-        }
-    }
-    false
+    let mut kinds = OF_CELLS.iter().chain(&OF_RECIPES).chain(&OF_DESKS);
+    kinds.any(|kind| *kind != TableKind::Procedure && word_of(*kind) == Some(word))
 }
 
 /// The kinds of tables of the documents that have tables of this kind.
@@ -71,6 +62,15 @@ pub(crate) const VALUES: [TableKind; 3] = [
     TableKind::Parameter,
     TableKind::Output,
 ];
+
+/// The kinds of tables that the labels of a chart name, in a table of this kind.
+pub(crate) fn kinds_below(kind: TableKind) -> &'static [TableKind] {
+    match kind {
+        TableKind::Procedure => &[TableKind::UnitProcedure],
+        TableKind::UnitProcedure => &[TableKind::Operation],
+        _ => &[TableKind::Phase],
+    }
+}
 
 /// The header of tables of this kind; the top has none.
 pub(crate) fn kind_said(alloc: Global, kind: TableKind) -> Result<String, AllocError> {

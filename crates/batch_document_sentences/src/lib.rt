@@ -5,6 +5,7 @@ mod charts;
 mod declared;
 mod documents;
 mod entries;
+mod entry;
 mod fits;
 mod hints;
 mod kinds;

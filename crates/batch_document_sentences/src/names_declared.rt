@@ -1,197 +1,143 @@
 //! The faults in the names that a table declares or uses.
-use crate::declared::{
-    Reference, first_named, listed_twice, names_among, offered_before, text_at, undeclared_listed,
-    undeclared_name, undeclared_role, value_names, word_below, word_declaring,
-};
+use crate::declared::{Reference, first_named, listed_twice, names_of};
 use crate::documents::table_said;
-use crate::entries::{Wrong, tables_of};
-use crate::kinds::namesakes_of;
+use crate::entries::Wrong;
+use crate::entry::Entry;
+use crate::kinds::{OF_RECIPES, namesakes_of};
 use crate::lines::line_of;
 use batch_reader::{Spot, TableKind};
 use batch_wording::meant_or_known;
-use std::alloc::{AllocError, Global};
-use toml::Table;
+use std::alloc::AllocError;
 
-/// Says which name of the table is declared nowhere.
-pub(crate) fn undeclared(
-    alloc: Global,
-    document: &Table,
-    table: &Table,
-    kind: TableKind,
-) -> Result<Wrong<'static>, AllocError> {
-    if kind == TableKind::Desk {
-        return no_unit(alloc, table);
-    }
-    if kind == TableKind::Module {
-        let unit = text_at(table, "unit").unwrap_or("");
-        return Wrong::with("unit", undeclared_said(alloc, document, "unit", unit));
-    }
-    let key = match kind {
-        TableKind::Phase => "values",
-        _ => "chart",
-    };
-    if let Some(reference) = undeclared_name(document, table, kind) {
-        return Wrong::with(key, reference_said(alloc, document, kind, reference));
-    }
-    if let Some(name) = undeclared_listed(document, table, "reports", "output") {
-        return Wrong::with("reports", undeclared_said(alloc, document, "output", name));
-    }
-    if let Some(role) = undeclared_role(document, table) {
-        return Wrong::with("role", role_said(alloc, document, role));
-    }
-    match undeclared_listed(document, table, "reserves", "unit_procedure") {
-        Some(name) => Wrong::with(
-            "reserves",
-            undeclared_said(alloc, document, "unit_procedure", name),
-        ),
-        None => Wrong::from_str(alloc, key, "a label or a name is declared nowhere"),
-    }
-}
+/// The keys whose texts name tables of the document, and the kind of these. The unit is that of a module: a unit procedure's stands
+/// in the cell, and one with a fault in its names has it at another key.
+const NAMING: [(&str, TableKind); 4] = [
+    ("reports", TableKind::Output),
+    ("role", TableKind::Role),
+    ("reserves", TableKind::UnitProcedure),
+    ("unit", TableKind::Unit),
+];
 
-/// Says that the cell doesn't have the unit of a desk.
-fn no_unit(alloc: Global, table: &Table) -> Result<Wrong<'static>, AllocError> {
-    let unit = text_at(table, "unit").unwrap_or("");
-    Wrong::with("unit", format!(in alloc; "the cell has no unit `{unit}`"))
-}
-
-/// Says that no table of the word has the name, and which tables have it, or which name may have been meant.
-fn undeclared_said(
-    alloc: Global,
-    document: &Table,
-    word: &str,
-    name: &str,
-) -> Result<String, AllocError> {
-    match word_declaring(document, name) {
-        Some(other) => {
-            format!(in alloc; "no [[{word}]] is named `{name}`, which is a [[{other}]]")
+impl Entry<'_> {
+    /// Says which name of the table is declared nowhere.
+    pub(crate) fn undeclared(self) -> Result<Wrong<'static>, AllocError> {
+        if self.spot.kind == TableKind::Desk {
+            let unit = self.text_at("unit");
+            return Wrong::with(
+                "unit",
+                format!(in self.alloc; "the cell has no unit `{unit}`"),
+            );
         }
-        None => {
-            let meant = meant_or_known(alloc, name, names_among(alloc, document, word))?;
-            format!(in alloc; "no [[{word}]] is named `{name}`{meant}")
+        if let Some(reference) = self.undeclared_name() {
+            return Wrong::with(reference.key, self.reference_said(reference));
         }
-    }
-}
-
-/// Says that no role has the name, and which key names a unit, unless a role may have been meant.
-fn role_said(alloc: Global, document: &Table, role: &str) -> Result<String, AllocError> {
-    let said = undeclared_said(alloc, document, "role", role)?;
-    if said.as_str().ends_with('?') {
-        return Ok(said);
-    }
-    format!(in alloc; "{said}; a unit of the cell is named by the key `unit`")
-}
-
-/// Says that the name of a chart, or of a list of values, is declared nowhere, or as something else.
-fn reference_said(
-    alloc: Global,
-    document: &Table,
-    kind: TableKind,
-    reference: Reference<'_>,
-) -> Result<String, AllocError> {
-    let name = reference.name;
-    match word_declaring(document, name) {
-        Some(word) => misnamed_said(alloc, kind, reference, word),
-        None => {
-            let names = names_for(alloc, document, kind, reference);
-            let meant = meant_or_known(alloc, name, names)?;
-            format!(in alloc; "`{name}` is declared nowhere{meant}")
-        }
-    }
-}
-
-/// Says that the name is that of a table of this word, and which kind it is to be.
-fn misnamed_said(
-    alloc: Global,
-    kind: TableKind,
-    reference: Reference<'_>,
-    word: &str,
-) -> Result<String, AllocError> {
-    let name = reference.name;
-    match word_below(kind) {
-        Some(below) if !reference.is_value => format!(in alloc;
-            "`{name}` is a [[{word}]], and a label of this chart names a [[{below}]]"
-        ),
-        Some(_) => format!(in alloc;
-            "`{name}` is a [[{word}]], and a condition compares values: an [[input]], a [[parameter]] or an [[output]]"
-        ),
-        None => format!(in alloc;
-            "`{name}` is a [[{word}]], and `values` are of the kinds [[input]], [[parameter]] and [[output]]"
-        ),
-    }
-}
-
-/// The names that are possible in the place of this one.
-fn names_for<'a>(
-    alloc: Global,
-    document: &'a Table,
-    kind: TableKind,
-    reference: Reference<'_>,
-) -> Result<Vec<&'a str>, AllocError> {
-    match word_below(kind) {
-        Some(below) if !reference.is_value => names_among(alloc, document, below),
-        _ => value_names(alloc, document),
-    }
-}
-
-/// Says which name of the table occurs twice.
-pub(crate) fn duplicate(
-    alloc: Global,
-    text: &str,
-    document: &Table,
-    table: &Table,
-    spot: Spot,
-) -> Result<Wrong<'static>, AllocError> {
-    if let Some(name) = listed_twice(table, "reports") {
-        return Wrong::with(
-            "reports",
-            format!(in alloc; "`{name}` stands twice in `reports`"),
-        );
-    }
-    if let Some(name) = text_at(table, "name") {
-        if let Some(first) = first_named(document, namesakes_of(&spot.kind), name) {
-            if first != spot {
-                return Wrong::with("name", namesake_said(alloc, text, document, name, first));
+        for (key, kind) in NAMING {
+            if let Some(name) = self.undeclared_at(key, &[kind]) {
+                return Wrong::with(key, self.undeclared_said(kind, name));
             }
         }
+        Wrong::from_str(self.alloc, "chart", "a label or a name is declared nowhere")
     }
-    if let Some(name) = listed_twice(table, "reserves") {
-        return Wrong::with(
-            "reserves",
-            format!(in alloc; "`{name}` stands twice in `reserves`"),
-        );
-    }
-    Wrong::with("phases", offered_said(alloc, document, table))
-}
 
-/// Says that the table at the spot has the name already.
-fn namesake_said(
-    alloc: Global,
-    text: &str,
-    document: &Table,
-    name: &str,
-    first: Spot,
-) -> Result<String, AllocError> {
-    let table = table_said(alloc, first)?;
-    match line_of(text, first, tables_of(document, first.kind), "name") {
-        Some(line) => format!(in alloc;
-            "the name `{name}` is declared twice: it is that of {table}, in line {line}"
-        ),
-        None => format!(in alloc; "the name `{name}` is declared twice: it is that of {table}"),
+    /// Says that no table of the kind has the name, and which tables have it, or which name may have been meant.
+    fn undeclared_said(self, kind: TableKind, name: &str) -> Result<String, AllocError> {
+        let word = kind.word();
+        let said = match first_named(self.document, &OF_RECIPES, name) {
+            Some(other) => {
+                let other = other.kind.word();
+                format!(in self.alloc; "no [[{word}]] is named `{name}`, which is a [[{other}]]")?
+            }
+            None => {
+                let meant = self.meant_said(name, &[kind])?;
+                format!(in self.alloc; "no [[{word}]] is named `{name}`{meant}")?
+            }
+        };
+        // Unless a role was meant, it may have been a unit.
+        if kind != TableKind::Role || said.ends_with('?') {
+            return Ok(said);
+        }
+        format!(in self.alloc; "{said}; a unit of the cell is named by the key `unit`")
     }
-}
 
-/// Says which phase of the module its unit offers twice.
-fn offered_said(alloc: Global, document: &Table, module: &Table) -> Result<String, AllocError> {
-    let unit = text_at(module, "unit").unwrap_or("");
-    if let Some(phase) = listed_twice(module, "phases") {
-        return format!(in alloc;
-            "the phase `{phase}` is offered twice by the unit `{unit}`: it stands twice in this module"
-        );
+    /// Says that the name of a chart, or of a list of values, is declared nowhere, or as something else.
+    fn reference_said(self, reference: Reference<'_>) -> Result<String, AllocError> {
+        let Reference { key, name, kinds } = reference;
+        let Some(other) = first_named(self.document, &OF_RECIPES, name) else {
+            let meant = self.meant_said(name, kinds)?;
+            return format!(in self.alloc; "`{name}` is declared nowhere{meant}");
+        };
+        let word = other.kind.word();
+        match (key, kinds) {
+            ("values", _) => format!(in self.alloc;
+                "`{name}` is a [[{word}]], and `values` are of the kinds [[input]], [[parameter]] and [[output]]"
+            ),
+            (_, [below]) => format!(in self.alloc;
+                "`{name}` is a [[{word}]], and a label of this chart names a [[{}]]",
+                below.word()
+            ),
+            _ => format!(in self.alloc;
+                "`{name}` is a [[{word}]], and a condition compares values: an [[input]], a [[parameter]] or an [[output]]"
+            ),
+        }
     }
-    match offered_before(document, unit, module) {
-        Some((phase, other)) => format!(in alloc;
-            "the phase `{phase}` is offered twice by the unit `{unit}`: its module `{other}` has it already"
-        ),
-        None => String::from_str(alloc, "a name stands twice"),
+
+    /// The name of a table of these kinds that may have been meant, or those that there are.
+    fn meant_said(self, name: &str, kinds: &[TableKind]) -> Result<String, AllocError> {
+        meant_or_known(self.alloc, name, names_of(self.alloc, self.document, kinds))
+    }
+
+    /// Says which name of the table occurs twice.
+    pub(crate) fn duplicate(self) -> Result<Wrong<'static>, AllocError> {
+        if let Some(name) = listed_twice(self.table, "reports") {
+            return self.twice("reports", name);
+        }
+        let name = self.text_at("name");
+        match first_named(self.document, namesakes_of(&self.spot.kind), name) {
+            Some(first) if first != self.spot => {
+                return Wrong::with("name", self.namesake_said(name, first));
+            }
+            _ => {}
+        }
+        match listed_twice(self.table, "reserves") {
+            Some(name) => self.twice("reserves", name),
+            None => Wrong::with("phases", self.offered_said()),
+        }
+    }
+
+    /// Says that the list under the key has the name twice.
+    fn twice(self, key: &'static str, name: &str) -> Result<Wrong<'static>, AllocError> {
+        Wrong::with(
+            key,
+            format!(in self.alloc; "`{name}` stands twice in `{key}`"),
+        )
+    }
+
+    /// Says that the table at the spot has the name already.
+    fn namesake_said(self, name: &str, first: Spot) -> Result<String, AllocError> {
+        let table = table_said(self.alloc, first)?;
+        match line_of(self.text, self.document, first, "name") {
+            Some(line) => format!(in self.alloc;
+                "the name `{name}` is declared twice: it is that of {table}, in line {line}"
+            ),
+            None => format!(in self.alloc;
+                "the name `{name}` is declared twice: it is that of {table}"
+            ),
+        }
+    }
+
+    /// Says which phase of the module its unit offers twice.
+    fn offered_said(self) -> Result<String, AllocError> {
+        let unit = self.text_at("unit");
+        if let Some(phase) = listed_twice(self.table, "phases") {
+            return format!(in self.alloc;
+                "the phase `{phase}` is offered twice by the unit `{unit}`: it stands twice in this module"
+            );
+        }
+        match self.offered_before() {
+            Some((phase, other)) => format!(in self.alloc;
+                "the phase `{phase}` is offered twice by the unit `{unit}`: its module `{other}` has it already"
+            ),
+            None => String::from_str(self.alloc, "a name stands twice"),
+        }
     }
 }
