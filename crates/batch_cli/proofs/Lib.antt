@@ -1,4 +1,4 @@
-pub mod Arguments
+pub mod BareCommands
 pub mod Faults
 pub mod CommandRows
 pub mod Numbers

@@ -39,8 +39,3 @@ with_commands app (text ∷ more) = with_commands (with_subcommand app (text_app
 pub record HasApp (app : App) (command : Command) : Type 0 where
   pub app_is : app_of command ≡ app
   pub no_globals : (out-Command command).has_globals ≡ false
-
--- one command is the other with these arguments added, none of which is global
-pub record AddsArguments (old : Command) (arguments : List Argument) (new : Command) : Type 0 where
-  pub app_is : app_of new ≡ with_arguments (app_of old) arguments
-  pub same_globals : (out-Command new).has_globals ≡ (out-Command old).has_globals

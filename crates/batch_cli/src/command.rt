@@ -4,7 +4,7 @@ ghost use Rattle.batch_cli.specs.declared.command.CommandFault.TheVariants.{Memo
 
 use crate::comments::Comments;
 use crate::plant_options::PlantOptions;
-use std::alloc::{AllocError, AllocFailed};
+use std::alloc::AllocError;
 use thiserror::Error;
 
 /// The request of the words.
@@ -151,14 +151,6 @@ impl From<AllocError> for CommandFault {
     ghost from_gives = { λ _ fault. fault ≡ Memory };
 
     fn from(_error: AllocError) -> CommandFault {
-        CommandFault::Memory
-    }
-}
-
-impl<T: Drop> From<AllocFailed<T>> for CommandFault {
-    ghost from_gives = { λ _ fault. fault ≡ Memory };
-
-    fn from(_error: AllocFailed<T>) -> CommandFault {
         CommandFault::Memory
     }
 }

@@ -2,9 +2,8 @@
 ghost use Rattle.std.specs.Prelude.{◌≡◌, IfOk};
 ghost use Rattle.clap.specs.Words.{app_of};
 ghost use Rattle.batch_cli.specs.CommandLine.{bare_app, program_app};
-ghost use Rattle.batch_cli.specs.Table.{AddsArguments, HasApp, text_app, with_commands};
+ghost use Rattle.batch_cli.specs.Table.{HasApp, text_app};
 
-use crate::argument::Argument;
 use crate::table::{CommandText, commands};
 use clap::Command;
 use std::alloc::{AllocError, Global};
@@ -38,7 +37,13 @@ Exit status:
 pub(crate) fn program<'a>(alloc: Global) -> Result<Command<'a>, AllocError>
     ensures { IfOk result (λ program. app_of program ≡ program_app) }
 {
-    with_all(alloc, bare(alloc)?, commands())
+    let mut program = bare(alloc)?;
+    let texts = commands();
+    for text in texts {
+        let added = command(alloc, text)?;
+        program = program.subcommand(added)?;
+    }
+    Ok(program)
 }
 
 /// The program without its commands.
@@ -53,42 +58,14 @@ fn bare<'a>(alloc: Global) -> Result<Command<'a>, AllocError>
         .bin_name("batchd")
 }
 
-/// The program with these commands added.
-fn with_all<'a>(
-    alloc: Global,
-    bare: Command<'a>,
-    texts: &[CommandText<'a>],
-) -> Result<Command<'a>, AllocError>
-    ensures { IfOk result (λ program. app_of program ≡ with_commands (app_of bare.entry) texts.now) }
-{
-    let mut program = bare;
-    for text in texts {
-        let added = command(alloc, text)?;
-        program = program.subcommand(added)?;
-    }
-    Ok(program)
-}
-
 /// The command of this text.
 fn command<'a>(alloc: Global, text: &CommandText<'a>) -> Result<Command<'a>, AllocError>
     ensures { IfOk result (HasApp (text_app text.now)) }
 {
-    let bare = Command::new(alloc, text.name)
+    let mut command = Command::new(alloc, text.name)
         .about(text.about)
         .after_help(text.example);
-    with_arguments(alloc, bare, text.arguments)
-}
-
-/// The command with these arguments added.
-fn with_arguments<'a>(
-    alloc: Global,
-    bare: Command<'a>,
-    arguments: &[Argument<'a>],
-) -> Result<Command<'a>, AllocError>
-    ensures { IfOk result (AddsArguments bare.entry arguments.now) }
-{
-    let mut command = bare;
-    for argument in arguments {
+    for argument in text.arguments {
         command = command.arg(argument.to_arg(alloc))?;
     }
     Ok(command)

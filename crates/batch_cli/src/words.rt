@@ -1,9 +1,9 @@
 //! The words of the command line.
-ghost use Rattle.std.specs.Prelude.{◌≡◌, ◌≤◌, ◌⊎◌, IfOk, IfErr, is_some, MatchOption, Some, map, option_map, string_bytes, codes, []};
+ghost use Rattle.std.specs.Prelude.{◌≡◌, ◌≤◌, ◌⊎◌, IfOk, IfErr, is_some, MatchOption, map, option_map, string_bytes, codes, []};
 ghost use Rattle.std.specs.Str.Parse.{digits_value, without_leading_plus};
 ghost use Rattle.clap.specs.Words.{FailsBy, IsUnsignedIn, fault_of, first_of, found_of, kind_of, rows_of, subcommand_of, subcommand_rows_of};
 ghost use Rattle.clap.specs.declared.error.kind.ErrorKind.TheVariants.{MissingRequiredArgument};
-ghost use Rattle.batch_cli.specs.CommandLine.{AreWordsOf, HasOptionsOf, IsFaultOf, IsFaultOfKind, audited_by, certified_by, checked_by, desks_by, is_given, named_by, number_given, program_app, request_of, word_of, words_of, shown_by, judged_by, judgement_of, faults_of, lacks_recipe, plant_source, planted_by, run_by, serve_by, source_of};
+ghost use Rattle.batch_cli.specs.CommandLine.{AreWordsOf, HasOptionsOf, IsFaultOf, IsFaultOfKind, audited_by, certified_by, checked_by, desks_by, is_given, named_by, number_given, program_app, request_of, word_of, words_of, judged_by, judgement_of, faults_of, lacks_recipe, plant_source, run_by, serve_by, source_of};
 
 use crate::command::{
     AuditWords, CommandFault, CommandWords, DeskWords, Judgement, SetSource, Subcommand,
@@ -100,7 +100,10 @@ fn command_of(alloc: Global, name: &str, words: &ArgMatches<'_>) -> Result<Subco
         "explain" => Ok(Subcommand::Explain {
             texts: several(alloc, words, "CODE")?,
         }),
-        "plant" => plant_command(alloc, words),
+        "plant" => Ok(Subcommand::Plant {
+            source: plant_source(alloc, words)?,
+            options: plant_options(words),
+        }),
         "status" => Ok(Subcommand::Status {
             path: optional(alloc, words, "RECORD")?,
         }),
@@ -110,7 +113,10 @@ fn command_of(alloc: Global, name: &str, words: &ArgMatches<'_>) -> Result<Subco
         "audit" => audit_command(alloc, words),
         "serve" => desks_command(alloc, words),
         "check" => check_command(alloc, words),
-        "show" => show_command(alloc, words),
+        "show" => Ok(Subcommand::Judge(Judgement::Show {
+            cell: word(alloc, words, "CELL")?,
+            recipes: several(alloc, words, "RECIPE")?,
+        })),
         _ => certified_command(alloc, name, words),
     }
 }
@@ -168,14 +174,6 @@ fn check_judgement(alloc: Global, words: &ArgMatches<'_>) -> Result<Judgement, A
     } else {
         Judgement::Check { all, cell, recipes }
     })
-}
-
-fn show_command(alloc: Global, words: &ArgMatches<'_>) -> Result<Subcommand, AllocError>
-    ensures { IfOk result (λ command. request_of command ≡ shown_by (rows_of (found_of words.now))) }
-{
-    let cell = word(alloc, words, "CELL")?;
-    let recipes = several(alloc, words, "RECIPE")?;
-    Ok(Subcommand::Judge(Judgement::Show { cell, recipes }))
 }
 
 /// `verify` or `run`, which have a certificate.
@@ -237,16 +235,6 @@ fn comments_of(words: &ArgMatches<'_>) -> Comments
     }
 }
 
-/// `plant`, of documents or of the demo.
-fn plant_command(alloc: Global, words: &ArgMatches<'_>) -> Result<Subcommand, AllocError>
-    ensures { IfOk result (λ command. request_of command ≡ planted_by (rows_of (found_of words.now))) }
-{
-    Ok(Subcommand::Plant {
-        source: plant_source(alloc, words)?,
-        options: plant_options(words),
-    })
-}
-
 /// The documents of a plant, or the demo's if no cell is given.
 fn plant_source(alloc: Global, words: &ArgMatches<'_>) -> Result<SetSource, AllocError>
     ensures { IfOk result (λ source. source_of source ≡ plant_source (first_of (codes "CELL") (rows_of (found_of words.now))) (rows_of (found_of words.now))) }
@@ -278,19 +266,7 @@ fn number(words: &ArgMatches<'_>, name: &str, least: u64, most: u64, usual: u64)
     ensures within { (least ≤ result) × (result ≤ most) }
 {
     match words.get_str(name) {
-        Some(text) => number_or(text, least, most, usual),
-        None => usual,
-    }
-}
-
-/// The number that the text gives, or the usual one if it gives none in the range.
-fn number_or(text: &str, least: u64, most: u64, usual: u64) -> u64
-    requires { (least ≤ usual) × (usual ≤ most) }
-    ensures number { result ≡ number_given least most usual (Some text.now) }
-    ensures within { (least ≤ result) × (result ≤ most) }
-{
-    match number_in(text, least, most) {
-        Some(number) => number,
+        Some(text) => number_in(text, least, most).unwrap_or(usual),
         None => usual,
     }
 }

@@ -1,32 +1,23 @@
 //! The remarks on a circle: the acts that hold and ask, their files and lines, and the changes that clear the set.
 use crate::names::{act_name, recipe_name, resource_name};
-use crate::roles::{class_of, unit_of};
-use crate::sources::RecipeSource;
-use crate::ways::node_above;
+use crate::roles::{may_take, unit_of};
+use crate::set::Set;
+use crate::ways::WayUp;
 use batch_cell::Cell;
 use batch_check::{Edge, rise_without};
-use batch_recipe::{Act, MAX_NODES, Recipe, UnitChoice, act_at};
-use batch_text::Name;
-use std::alloc::{AllocError, Global};
+use batch_recipe::{Act, Recipe, UnitChoice, act_at};
+use std::alloc::AllocError;
 
 /// The most edges of a circle for which the changes that clear the set are searched.
 const MOST_LOOKED_AT: usize = 16;
 
 /// The act above the edge's that holds the held resource, and the place of its table.
-pub(crate) fn holder_said(
-    alloc: Global,
-    cell: &Cell,
-    recipes: &[Recipe],
-    sources: &[RecipeSource],
-    edge: Edge,
-) -> Result<String, AllocError> {
-    let Some(recipe) = recipes.get(usize::from(edge.recipe)) else {
-        return Ok(String::new(alloc));
-    };
-    match holder_of(cell, recipe, edge) {
+pub(crate) fn holder_said(set: Set<'_>, edge: Edge) -> Result<String, AllocError> {
+    let alloc = set.alloc;
+    match holder_of(set, edge) {
         Some(node) if node != edge.node => {
-            let name = act_name(recipes, edge.recipe, node);
-            let place = file_said(alloc, recipe, sources, edge.recipe, node, true)?;
+            let name = act_name(set.recipes, edge.recipe, node);
+            let place = table_said(set, edge.recipe, node, true)?;
             format!(in alloc; " in {name}{place}")
         }
         _ => Ok(String::new(alloc)),
@@ -34,99 +25,53 @@ pub(crate) fn holder_said(
 }
 
 /// The line of the asking act's table, with its file if no act above it holds the held resource.
-pub(crate) fn asker_said(
-    alloc: Global,
-    cell: &Cell,
-    recipes: &[Recipe],
-    sources: &[RecipeSource],
-    edge: Edge,
-) -> Result<String, AllocError> {
-    let Some(recipe) = recipes.get(usize::from(edge.recipe)) else {
-        return Ok(String::new(alloc));
-    };
-    let has_file = match holder_of(cell, recipe, edge) {
-        Some(node) => node == edge.node,
-        None => true,
-    };
-    file_said(alloc, recipe, sources, edge.recipe, edge.node, has_file)
+pub(crate) fn asker_said(set: Set<'_>, edge: Edge) -> Result<String, AllocError> {
+    let has_file = holder_of(set, edge).is_none_or(|node| node == edge.node);
+    table_said(set, edge.recipe, edge.node, has_file)
 }
 
 /// The node of the first act on the way to the edge's node that asks for the held resource.
-fn holder_of(cell: &Cell, recipe: &Recipe, edge: Edge) -> Option<u16> {
-    let held = resource_name(cell, edge.earlier);
-    let mut found = None;
-    let mut at = Some(edge.node);
-    for _ in 0..MAX_NODES {
-        let Some(node) = at else {
-            break;
-        };
-        if asks_at(cell, recipe, node, held) {
-            found = Some(node);
-        }
-        at = node_above(recipe, node);
-    }
-    found
-}
-
-/// Whether the node is of an act that asks for the resource of this name.
-fn asks_at(cell: &Cell, recipe: &Recipe, node: u16, resource: &str) -> bool {
-    match act_at(recipe, node) {
-        Some(act) => asks_for(cell, recipe, act, resource),
-        None => false,
-    }
+fn holder_of(set: Set<'_>, edge: Edge) -> Option<u16> {
+    let recipe = set.recipe(edge.recipe)?;
+    let held = resource_name(set.cell, edge.earlier);
+    WayUp::from_node(recipe, edge.node)
+        .filter(|node| {
+            act_at(recipe, *node).is_some_and(|act| asks_for(set.cell, recipe, act, held))
+        })
+        .last()
 }
 
 /// Whether the act asks for the resource of this name if some unit takes its role.
 fn asks_for(cell: &Cell, recipe: &Recipe, act: &Act, resource: &str) -> bool {
-    for need in &act.needs {
-        if need.resource.text() == resource {
-            return true;
-        }
-    }
-    for name in &act.reserves {
-        if let Some(choice) = unit_of(recipe, name) {
-            if may_be(cell, recipe, choice, resource) {
-                return true;
-            }
-        }
-    }
-    match &act.unit {
-        Some(choice) => may_be(cell, recipe, choice, resource),
-        None => false,
-    }
+    let is_asked = |choice| may_be(cell, recipe, choice, resource);
+    act.needs
+        .iter()
+        .any(|need| need.resource.text() == resource)
+        || act.unit.as_ref().is_some_and(is_asked)
+        || act
+            .reserves
+            .iter()
+            .any(|name| unit_of(recipe, name).is_some_and(is_asked))
 }
 
 /// Whether the unit of this name is the one chosen, or may take the role.
 fn may_be(cell: &Cell, recipe: &Recipe, choice: &UnitChoice, resource: &str) -> bool {
     match choice {
         UnitChoice::Unit(unit) => unit.text() == resource,
-        UnitChoice::Role(role) => may_take(cell, recipe, role, resource),
-    }
-}
-
-/// Whether the unit of this name may take the role.
-fn may_take(cell: &Cell, recipe: &Recipe, role: &Name, unit: &str) -> bool {
-    let Some(class) = class_of(recipe, role) else {
-        return false;
-    };
-    for own in &cell.units {
-        if own.name.text() == unit {
-            return own.is_of_class(class);
+        UnitChoice::Role(role) => {
+            let mut takers = cell
+                .units
+                .iter()
+                .filter(|unit| may_take(recipe, role, unit));
+            takers.any(|unit| unit.name.text() == resource)
         }
     }
-    false
 }
 
 /// The line of the table of the act at the node, and the file if that is asked for, as far as they are known.
-fn file_said(
-    alloc: Global,
-    recipe: &Recipe,
-    sources: &[RecipeSource],
-    number: u16,
-    node: u16,
-    has_file: bool,
-) -> Result<String, AllocError> {
-    let Some(source) = sources.get(usize::from(number)) else {
+fn table_said(set: Set<'_>, number: u16, node: u16, has_file: bool) -> Result<String, AllocError> {
+    let alloc = set.alloc;
+    let (Some(recipe), Some(source)) = (set.recipe(number), set.source(number)) else {
         return Ok(String::new(alloc));
     };
     let path = source.path();
@@ -139,46 +84,24 @@ fn file_said(
 }
 
 /// The advice on the circle: names each of its orders without which the set would be cleared.
-pub(crate) fn advice_said(
-    alloc: Global,
-    cell: &Cell,
-    recipes: &[Recipe],
-    edges: &[Edge],
-) -> Result<String, AllocError> {
+pub(crate) fn advice_said(set: Set<'_>, edges: &[Edge]) -> Result<String, AllocError> {
     match edges.first() {
         Some(edge) if edge.earlier == edge.later => String::from_str(
-            alloc,
+            set.alloc,
             "; what is held can't be asked for again, and one need of it is enough",
         ),
-        _ => mending_said(alloc, cell, recipes, edges),
+        _ if edges.len() > MOST_LOOKED_AT => Ok(String::new(set.alloc)),
+        _ => {
+            let rise = rise_without(set.alloc, set.cell, set.recipes, edges);
+            mending_said(set, edges, &rise.map_err(|_| AllocError)?)
+        }
     }
 }
 
-fn mending_said(
-    alloc: Global,
-    cell: &Cell,
-    recipes: &[Recipe],
-    edges: &[Edge],
-) -> Result<String, AllocError> {
-    let mut said = String::new(alloc);
-    let mut clearing: usize = 0;
-    if edges.len() > MOST_LOOKED_AT {
-        return Ok(said);
-    }
-    let rise = clear_without(alloc, cell, recipes, edges)?;
-    for (edge, clears) in edges.iter().zip(&rise) {
-        if *clears {
-            clearing = clearing.saturating_add(1);
-            said.push_str(if clearing == 1 {
-                "; the set would be cleared without the order of "
-            } else {
-                ", or without that of "
-            })?;
-            said.push_str(recipe_name(recipes, edge.recipe))?;
-            said.push_str(" in ")?;
-            said.push_str(act_name(recipes, edge.recipe, edge.node))?;
-        }
-    }
+/// Names each of the edges without whose order of its two resources the set would be cleared, which is said of each.
+fn mending_said(set: Set<'_>, edges: &[Edge], rise: &[bool]) -> Result<String, AllocError> {
+    let alloc = set.alloc;
+    let clearing = rise.iter().filter(|clears| **clears).count();
     if clearing == edges.len() {
         return String::from_str(
             alloc,
@@ -191,18 +114,16 @@ fn mending_said(
             "; there are other circles too, so that more than one order has to change",
         );
     }
-    Ok(said)
-}
-
-/// Whether the set would be cleared without an edge's order of its two resources, for each of the edges.
-fn clear_without(
-    alloc: Global,
-    cell: &Cell,
-    recipes: &[Recipe],
-    edges: &[Edge],
-) -> Result<Vec<bool>, AllocError> {
-    match rise_without(alloc, cell, recipes, edges) {
-        Ok(rise) => Ok(rise),
-        Err(_) => Err(AllocError),
+    let mut said = String::new(alloc);
+    for (edge, _) in edges.iter().zip(rise).filter(|(_, clears)| **clears) {
+        let front = if said.is_empty() {
+            "; the set would be cleared without the order of "
+        } else {
+            ", or without that of "
+        };
+        let recipe = recipe_name(set.recipes, edge.recipe);
+        let act = act_name(set.recipes, edge.recipe, edge.node);
+        write!(said, "{front}{recipe} in {act}")?;
     }
+    Ok(said)
 }

@@ -48,9 +48,7 @@ fn name_at(recipe: &Recipe, node: u16) -> &str
 
 /// The names of the cell's resources.
 pub(crate) fn resource_names(alloc: Global, cell: &Cell) -> Result<Vec<&str>, AllocError> {
-    let mut names = Vec::new(alloc);
-    for resource in 0..cell.resources() {
-        names.push(cell.name_of(resource).text())?;
-    }
-    Ok(names)
+    (0..cell.resources())
+        .map(|resource| resource_name(cell, resource))
+        .collect(alloc)
 }

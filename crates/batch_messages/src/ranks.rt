@@ -1,68 +1,55 @@
 //! Ranks that don't rise along the path to a step.
-use crate::roles::{class_of, role_among, unit_of};
-use batch_cell::Cell;
-use batch_recipe::{Act, Recipe, UnitChoice};
+use crate::roles::{may_take, unit_among, unit_of};
+use crate::subject::Subject;
+use batch_recipe::{Act, UnitChoice};
 use batch_text::Name;
-use batch_verify::Certificate;
-use std::alloc::{AllocError, Global};
+use std::alloc::AllocError;
 
-/// A resource that is asked for, with its rank.
+/// An ask for one of several units, of which one has the least rank and one the greatest; a resource that is named is both.
 #[derive(Clone, Copy)]
-struct Asked<'a> {
-    name: &'a Name,
-    rank: u32,
-    kept: Option<Kept<'a>>,
-}
-
-/// The unit procedure that a unit is reserved for, and the role that the unit takes for it, if it has one.
-#[derive(Clone, Copy)]
-struct Kept<'a> {
-    procedure: &'a Name,
+struct Ask<'a> {
+    least: &'a Name,
+    greatest: &'a Name,
+    /// The unit procedure that the unit is reserved for.
+    procedure: Option<&'a Name>,
+    /// The role that the unit takes for it, if it has one.
     role: Option<&'a Name>,
 }
 
-/// The sources of units and ranks, and a role with the unit that is to take it.
+/// A subject, and a role of it with the unit that is to take it.
 #[derive(Clone, Copy)]
 struct Scene<'a> {
-    cell: &'a Cell,
-    recipe: &'a Recipe,
-    certificate: Option<&'a Certificate>,
+    subject: Subject<'a>,
     taken: Option<(&'a Name, &'a Name)>,
 }
 
-/// The ranks of the asks of acts, in order.
-#[derive(Drop)]
-enum Ranks<'a> {
-    /// The ranks rise, up to that of this ask.
-    Rise(Option<Asked<'a>>),
-    /// The second of these asks is the first whose rank isn't above that of the ask before it.
-    Fall(Asked<'a>, Asked<'a>),
-}
+impl<'a> Ask<'a> {
+    fn of(name: &'a Name) -> Ask<'a> {
+        Ask {
+            least: name,
+            greatest: name,
+            procedure: None,
+            role: None,
+        }
+    }
 
-impl<'a> Asked<'a> {
-    /// Whether it is a unit that takes this role of the unit procedure that it is reserved for.
-    fn takes(self, role: &Name) -> bool {
-        match self.kept {
-            Some(
-                Kept {
-                    role: Some(own),
-                    ..
-                },
-            ) => *own == *role,
-            _ => false,
+    /// The name with its rank, and the unit procedure that the unit of this name is reserved for.
+    fn said(self, subject: Subject<'a>, name: &Name) -> Result<String, AllocError> {
+        let alloc = subject.alloc;
+        let rank = subject.rank_of(name);
+        match (self.procedure, self.role) {
+            (Some(procedure), Some(role)) => format!(in alloc;
+                "{name} of rank {rank}, reserved for {procedure} where it takes the role {role}"
+            ),
+            (Some(procedure), None) => {
+                format!(in alloc; "{name} of rank {rank}, reserved for {procedure}")
+            }
+            (None, _) => format!(in alloc; "{name} of rank {rank}"),
         }
     }
 }
 
 impl<'a> Scene<'a> {
-    fn asked(self, name: &'a Name, kept: Option<Kept<'a>>) -> Asked<'a> {
-        Asked {
-            name,
-            rank: rank_of(self.certificate, name),
-            kept,
-        }
-    }
-
     /// The unit that is to take the role.
     fn taker(self, role: &Name) -> Option<&'a Name> {
         match self.taken {
@@ -73,10 +60,9 @@ impl<'a> Scene<'a> {
 
     /// The unit of the act, if it is known.
     fn unit_on(self, act: &'a Act) -> Option<&'a Name> {
-        match &act.unit {
-            None => None,
-            Some(UnitChoice::Unit(unit)) => Some(unit),
-            Some(UnitChoice::Role(role)) => self.taker(role),
+        match act.unit.as_ref()? {
+            UnitChoice::Unit(unit) => Some(unit),
+            UnitChoice::Role(role) => self.taker(role),
         }
     }
 
@@ -85,114 +71,72 @@ impl<'a> Scene<'a> {
         if let Some(unit) = self.taker(role) {
             return Some((unit, unit));
         }
-        let class = class_of(self.recipe, role)?;
-        let mut found: Option<(&'a Name, &'a Name)> = None;
-        for unit in &self.cell.units {
-            if unit.is_of_class(class) {
-                found = Some(match found {
-                    None => (&unit.name, &unit.name),
-                    Some((least, greatest)) => (
-                        self.lesser(&unit.name, least),
-                        self.greater(&unit.name, greatest),
-                    ),
-                });
-            }
-        }
-        found
+        let subject = self.subject;
+        let units = subject.cell.units.iter();
+        let least = units
+            .filter(|unit| may_take(subject.recipe, role, unit))
+            .min_by_key(|unit| subject.rank_of(&unit.name))?;
+        let units = subject.cell.units.iter().rev();
+        let greatest = units
+            .filter(|unit| may_take(subject.recipe, role, unit))
+            .max_by_key(|unit| subject.rank_of(&unit.name))?;
+        Some((&least.name, &greatest.name))
     }
 
-    /// The first of the two if its rank is below that of the second, else the second.
-    fn lesser(self, name: &'a Name, other: &'a Name) -> &'a Name {
-        if rank_of(self.certificate, name) < rank_of(self.certificate, other) {
-            name
-        } else {
-            other
-        }
-    }
-
-    /// The first of the two if its rank is above that of the second, else the second.
-    fn greater(self, name: &'a Name, other: &'a Name) -> &'a Name {
-        if rank_of(self.certificate, other) < rank_of(self.certificate, name) {
-            name
-        } else {
-            other
-        }
-    }
-}
-
-impl<'a> Ranks<'a> {
-    /// The ranks along the acts.
-    fn along(scene: Scene<'a>, acts: &[&'a Act]) -> Ranks<'a> {
-        let mut ranks = Ranks::Rise(None);
-        for act in acts {
-            ranks = ranks.then_those_of(scene, act);
-        }
-        ranks
-    }
-
-    /// The ranks with that of one more resource, which is one of two. The ranks before it are compared with the lesser
-    /// of the two ranks, and those behind it with the greater.
-    fn then(self, least: Asked<'a>, greatest: Asked<'a>) -> Ranks<'a> {
-        match self {
-            Ranks::Rise(Some(earlier)) if least.rank <= earlier.rank => Ranks::Fall(earlier, least),
-            Ranks::Rise(_) => Ranks::Rise(Some(greatest)),
-            Ranks::Fall(earlier, fallen) => Ranks::Fall(earlier, fallen),
-        }
-    }
-
-    /// The ranks with those of the act's asks, in order.
-    fn then_those_of(self, scene: Scene<'a>, act: &'a Act) -> Ranks<'a> {
-        let mut ranks = match scene.unit_on(act) {
-            Some(unit) => {
-                let own = scene.asked(unit, None);
-                self.then(own, own)
-            }
-            None => self,
+    /// The ask for the unit of a unit procedure that is reserved. If the ask before it is for the same role, it is for the same unit.
+    fn reserved(self, procedure: &'a Name, before: Option<&Ask<'a>>) -> Option<Ask<'a>> {
+        let (role, (least, greatest)) = match unit_of(self.subject.recipe, procedure)? {
+            UnitChoice::Unit(unit) => (None, (unit, unit)),
+            UnitChoice::Role(role) => match before {
+                Some(ask) if ask.role.is_some_and(|own| *own == *role) => {
+                    (Some(role), (ask.greatest, ask.greatest))
+                }
+                _ => (Some(role), self.extremes(role)?),
+            },
         };
-        for procedure in &act.reserves {
-            ranks = ranks.then_reserved(scene, procedure);
-        }
-        for need in &act.needs {
-            let own = scene.asked(&need.resource, None);
-            ranks = ranks.then(own, own);
-        }
-        ranks
+        Some(Ask {
+            least,
+            greatest,
+            procedure: Some(procedure),
+            role,
+        })
     }
 
-    /// The ranks with that of the unit of a unit procedure that is reserved.
-    fn then_reserved(self, scene: Scene<'a>, procedure: &'a Name) -> Ranks<'a> {
-        match unit_of(scene.recipe, procedure) {
-            None => self,
-            Some(UnitChoice::Unit(unit)) => {
-                let kept = Kept {
-                    procedure,
-                    role: None,
-                };
-                let own = scene.asked(unit, Some(kept));
-                self.then(own, own)
+    /// The asks of the acts, in order.
+    fn asks(self, acts: &[&'a Act]) -> Result<Vec<Ask<'a>>, AllocError> {
+        let mut asks = Vec::new(self.subject.alloc);
+        for act in acts {
+            if let Some(unit) = self.unit_on(act) {
+                asks.push(Ask::of(unit))?;
             }
-            Some(UnitChoice::Role(role)) => {
-                let kept = Kept {
-                    procedure,
-                    role: Some(role),
-                };
-                match self.extremes_behind(scene, role) {
-                    Some((least, greatest)) => {
-                        let least = scene.asked(least, Some(kept));
-                        self.then(least, scene.asked(greatest, Some(kept)))
-                    }
-                    None => self,
+            for procedure in &act.reserves {
+                if let Some(ask) = self.reserved(procedure, asks.last()) {
+                    asks.push(ask)?;
                 }
             }
+            for need in &act.needs {
+                asks.push(Ask::of(&need.resource))?;
+            }
         }
+        Ok(asks)
     }
 
-    /// The units of the least and of the greatest rank that may take the role. If the ask before is for this role, its unit is both.
-    fn extremes_behind(&self, scene: Scene<'a>, role: &Name) -> Option<(&'a Name, &'a Name)> {
-        match self {
-            Ranks::Rise(Some(earlier)) if earlier.takes(role) => Some((earlier.name, earlier.name)),
-            _ => scene.extremes(role),
+    /// Names the first ask of the acts whose rank isn't above that of the ask before it, if there is one.
+    fn fall_said(self, acts: &[&'a Act]) -> Result<Option<String>, AllocError> {
+        let subject = self.subject;
+        let asks = self.asks(acts)?;
+        for (before, ask) in asks.iter().zip(asks.iter().skip(1)) {
+            if subject.rank_of(ask.least) <= subject.rank_of(before.greatest) {
+                let pause = if ask.procedure.is_some() { "," } else { "" };
+                let later = ask.said(subject, ask.least)?;
+                let earlier = before.said(subject, before.greatest)?;
+                let said = format!(in subject.alloc;
+                    "it asks for {later}{pause} after {earlier}, and ranks have to rise"
+                )?;
+                return Ok(Some(said));
+            }
         }
+        Ok(None)
     }
 }
 
@@ -200,86 +144,23 @@ impl<'a> Ranks<'a> {
 ///
 /// The sentence also names the units that take the roles of their unit procedure, and of the unit procedures that they reserve, if these
 /// have any.
-pub(crate) fn rank_said<'a>(
-    alloc: Global,
-    cell: &'a Cell,
-    recipe: &'a Recipe,
-    certificate: Option<&'a Certificate>,
-    acts: &[&'a Act],
-) -> Result<String, AllocError> {
-    let scene = Scene {
-        cell,
-        recipe,
-        certificate,
-        taken: None,
-    };
-    if let Some(role) = role_among(acts) {
-        if let Some((unit, earlier, later)) = first_fall(scene, acts, role) {
-            let fall = fall_said(alloc, earlier, later)?;
-            return format!(in alloc; "where {unit} takes the role {role}, {fall}");
-        }
-    }
-    match Ranks::along(scene, acts) {
-        Ranks::Fall(earlier, later) => fall_said(alloc, earlier, later),
-        Ranks::Rise(_) => String::from_str(alloc, "it asks for resources whose ranks don't rise"),
-    }
-}
-
-/// The first of the units that may take the role with which the ranks of the acts don't rise, and the two asks where they fall.
-fn first_fall<'a>(
-    scene: Scene<'a>,
-    acts: &[&'a Act],
-    role: &'a Name,
-) -> Option<(&'a Name, Asked<'a>, Asked<'a>)> {
-    let class = class_of(scene.recipe, role)?;
-    for unit in &scene.cell.units {
-        if unit.is_of_class(class) {
+pub(crate) fn rank_said<'a>(subject: Subject<'a>, acts: &[&'a Act]) -> Result<String, AllocError> {
+    let alloc = subject.alloc;
+    if let Some(UnitChoice::Role(role)) = unit_among(acts) {
+        let units = subject.cell.units.iter();
+        for unit in units.filter(|unit| may_take(subject.recipe, role, unit)) {
             let taken = Some((role, &unit.name));
-            if let Ranks::Fall(earlier, later) = Ranks::along(Scene { taken, ..scene }, acts) {
-                return Some((&unit.name, earlier, later));
+            if let Some(fall) = (Scene { subject, taken }).fall_said(acts)? {
+                return format!(in alloc; "where {} takes the role {role}, {fall}", unit.name);
             }
         }
     }
-    None
-}
-
-fn fall_said(alloc: Global, earlier: Asked<'_>, later: Asked<'_>) -> Result<String, AllocError> {
-    let pause = if later.kept.is_some() { "," } else { "" };
-    let later = asked_said(alloc, later)?;
-    let earlier = asked_said(alloc, earlier)?;
-    format!(in alloc; "it asks for {later}{pause} after {earlier}, and ranks have to rise")
-}
-
-/// The name and the rank, and the unit procedure that a unit is reserved for.
-fn asked_said(alloc: Global, asked: Asked<'_>) -> Result<String, AllocError> {
-    let Asked { name, rank, kept } = asked;
-    match kept {
-        None => format!(in alloc; "{name} of rank {rank}"),
-        Some(
-            Kept {
-                procedure,
-                role: None,
-            },
-        ) => format!(in alloc; "{name} of rank {rank}, reserved for {procedure}"),
-        Some(
-            Kept {
-                procedure,
-                role: Some(role),
-            },
-        ) => format!(in alloc;
-            "{name} of rank {rank}, reserved for {procedure} where it takes the role {role}"
-        ),
-    }
-}
-
-fn rank_of(certificate: Option<&Certificate>, name: &Name) -> u32 {
-    let Some(certificate) = certificate else {
-        return 0;
+    let scene = Scene {
+        subject,
+        taken: None,
     };
-    for (ranked, rank) in &certificate.ranks {
-        if *ranked == *name {
-            return *rank;
-        }
+    match scene.fall_said(acts)? {
+        Some(fall) => Ok(fall),
+        None => String::from_str(alloc, "it asks for resources whose ranks don't rise"),
     }
-    0
 }

@@ -1,5 +1,6 @@
 //! The files and lines of the acts of recipes.
-use batch_recipe::{Kind, LabelTable, MAX_NODES, Recipe};
+use crate::ways::WayUp;
+use batch_recipe::{Kind, LabelTable, Recipe, act_at};
 use batch_wording::{header_in, shown};
 use std::alloc::{AllocError, Global};
 
@@ -50,19 +51,15 @@ impl RecipeSource {
 
     /// The line of the table of the node's act, if the document has as many headers as the recipe has tables of the kind.
     pub(crate) fn line_of(&self, recipe: &Recipe, node: u16) -> Option<usize> {
-        let mut at = node;
-        for _ in 0..MAX_NODES {
-            let entry = recipe.outline.entries.get(usize::from(at))?;
-            match entry.kind {
-                Kind::Procedure => return line_among(&self.procedures, 0, 1),
-                Kind::Act(table, number) => {
-                    let tables = recipe.acts.table(table).len();
-                    return line_among(self.lines_of(table), number, tables);
-                }
-                Kind::Skip | Kind::Seq | Kind::Par | Kind::Sel | Kind::Loop(_) => at = entry.parent,
+        let mut way = WayUp::from_node(recipe, node);
+        let node = way.find(|node| act_at(recipe, *node).is_some())?;
+        match recipe.outline.entries.get(usize::from(node))?.kind {
+            Kind::Act(table, number) => {
+                let tables = recipe.acts.table(table).len();
+                line_among(self.lines_of(table), number, tables)
             }
+            _ => line_among(&self.procedures, 0, 1),
         }
-        None
     }
 
     fn lines_of(&self, table: LabelTable) -> &[usize] {
@@ -86,12 +83,11 @@ fn line_among(lines: &[usize], number: usize, tables: usize) -> Option<usize> {
 /// The file of the recipe with this number and the line of the act at its node, as far as they are known, each with a mark behind it.
 pub(crate) fn origin_said(
     alloc: Global,
-    sources: &[RecipeSource],
-    number: u16,
+    source: Option<&RecipeSource>,
     recipe: &Recipe,
     node: u16,
 ) -> Result<String, AllocError> {
-    let Some(source) = sources.get(usize::from(number)) else {
+    let Some(source) = source else {
         return Ok(String::new(alloc));
     };
     let path = source.path();

@@ -54,23 +54,8 @@ fn warning_said(
 {
     match warning {
         RecipeWarning::UnnamedAct(table, act) => unnamed_said(alloc, &recipe.acts, table, act),
-        RecipeWarning::ValueOutOfRange(QuantityTable::Inputs, input) => {
-            range_said(
-                alloc,
-                QuantityTable::Inputs,
-                recipe.basis,
-                &recipe.inputs,
-                input,
-            )
-        }
-        RecipeWarning::ValueOutOfRange(QuantityTable::Parameters, parameter) => {
-            range_said(
-                alloc,
-                QuantityTable::Parameters,
-                recipe.basis,
-                &recipe.parameters,
-                parameter,
-            )
+        RecipeWarning::ValueOutOfRange(table, quantity) => {
+            range_said(alloc, recipe, table, quantity)
         }
         RecipeWarning::UnreportedOutput(output) => output_said(alloc, recipe, output),
         RecipeWarning::UnusedRole(role) => role_said(alloc, recipe, role),
@@ -120,16 +105,24 @@ fn kind_said(table: LabelTable) -> &'static str
 #[tactic(auto, using(crate::proofs::WordsByNumber::said_found, crate::proofs::WordsByNumber::said_past))]
 fn range_said(
     alloc: Global,
+    recipe: &Recipe,
     table: QuantityTable,
-    basis: u64,
-    quantities: &[Quantity],
     quantity: usize,
 ) -> Result<String, AllocError>
-    ensures { IfOk result (λ said. string_bytes said ≡ said_at (range_said table basis) quantities.now quantity) }
+    ensures { IfOk result (λ said. string_bytes said ≡ said_at (range_said table recipe.now.basis) (quantities_in recipe.now table) quantity) }
 {
-    match quantities.get(quantity) {
-        Some(quantity) => outside_said(alloc, table, basis, quantity),
+    match quantities_in(recipe, table).get(quantity) {
+        Some(quantity) => outside_said(alloc, table, recipe.basis, quantity),
         None => Ok(String::new(alloc)),
+    }
+}
+
+fn quantities_in(recipe: &Recipe, table: QuantityTable) -> &[Quantity]
+    ensures { result.now ≡ quantities_in recipe.now table }
+{
+    match table {
+        QuantityTable::Inputs => &recipe.inputs,
+        QuantityTable::Parameters => &recipe.parameters,
     }
 }
 
@@ -142,15 +135,9 @@ fn outside_said(
     ensures { IfOk result (λ said. string_bytes said ≡ range_said table basis quantity.now) }
 {
     let front = value_said(table);
-    let Quantity {
-        name,
-        value,
-        min,
-        max,
-        ..
-    } = quantity;
     format!(in alloc;
-        "{front}{name}, {value}, lies outside its range, {min} to {max}, so no batch of the basis, {basis}, can be created"
+        "{front}{}, {}, lies outside its range, {} to {}, so no batch of the basis, {basis}, can be created",
+        quantity.name, quantity.value, quantity.min, quantity.max
     )
 }
 

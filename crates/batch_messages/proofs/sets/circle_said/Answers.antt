@@ -7,13 +7,13 @@ abbrev no_edge : Edge
 no_edge = record { recipe = 0; node = 0; earlier = 0; later = 0 }
 
 pub loop-edge-init : goal.loop-edge-init
-loop-edge-init c = subst (IsCircleTold c.args.cell.now c.args.recipes.now (take 0 c.args.edges.now)) (sym c.in_ok-said.ensures.ok) (told_first c.args.cell.now c.args.recipes.now)
+loop-edge-init c = subst (IsCircleTold c.args.set.cell.now c.args.set.recipes.now (take 0 c.args.edges.now)) (sym c.in_ok-said.ensures.ok) (told_first c.args.set.cell.now c.args.set.recipes.now)
 
 pub loop-edge-preserved : goal.loop-edge-preserved
 loop-edge-preserved c =
     let edges = c.args.edges.now in
     let within : c.loop-edge.edge-index < length edges = search rules in
     let grew = c.in_ok-push_str.ensures.bytes ∙ ap (λ text. string_bytes c.loop-edge.said ++ text) c.deref.ensures in
-    subst (IsCircleTold c.args.cell.now c.args.recipes.now (take (c.loop-edge.edge-index + 1) edges)) (sym grew)
-    (told_more c.args.cell.now c.args.recipes.now edges c.loop-edge.edge-index (get_or edges c.loop-edge.edge-index no_edge) no_edge (string_bytes c.loop-edge.said) (string_bytes c.in_ok-words.words)
+    subst (IsCircleTold c.args.set.cell.now c.args.set.recipes.now (take (c.loop-edge.edge-index + 1) edges)) (sym grew)
+    (told_more c.args.set.cell.now c.args.set.recipes.now edges c.loop-edge.edge-index (get_or edges c.loop-edge.edge-index no_edge) no_edge (string_bytes c.loop-edge.said) (string_bytes c.in_ok-words.words)
     within refl c.loop-edge.invariant c.in_ok-words.ensures)

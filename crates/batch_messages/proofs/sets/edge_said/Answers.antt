@@ -11,6 +11,6 @@ returns c =
     ++ (c.resource_name-earlier.result.now ++ (holder ++ (codes " and asks for " ++ (c.resource_name-later.result.now ++ (codes " in "
     ++ (c.act_name-act.result.now ++ asker))))))))) = c.format.ensures.ok in
     let told : ToldEdge = record { edge = c.args.edge; holder = holder; asker = asker } in
-    IfOk-weaker c.format.result _ (λ text. IsEdgeTold c.args.cell.now c.args.recipes.now c.args.edge (string_bytes text))
+    IfOk-weaker c.format.result _ (λ text. IsEdgeTold c.args.set.cell.now c.args.set.recipes.now c.args.edge (string_bytes text))
     (λ text is. record { told = told; of = refl; words = rw (← c.recipe_name-name.ensures, ← c.resource_name-earlier.ensures, ← c.resource_name-later.ensures, ← c.act_name-act.ensures) is })
     said
