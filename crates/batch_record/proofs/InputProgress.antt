@@ -2,7 +2,7 @@
 use Rattle.std.proofs.Common.{◌≡◌, ℕ, ◌+◌, ◌-◌, ◌^◌, ◌<◌, false, eqb, List, [], ◌∷◌, ◌++◌, length, take, drop, min, Option, Some, None, Result, Ok, IfSome, refl, sym, ap, subst, ◌∙◌, append_assoc, append-nil, arith}
 use Rattle.std.{proofs.lemmas.List.drop_more, proofs.lemmas.List.take-append-drop, proofs.lemmas.List.take_rest, proofs.lemmas.List.Elements.All-append, proofs.KnownBytes.Consumes-trans, proofs.KnownBytes.Consumes-whole, specs.Io.KnownBytes.Consumes, specs.Io.KnownBytes.IsAtEnd, specs.Io.KnownBytes.ReadConsumes}
 use Rattle.batch_model.specs.Lists.{Each}
-use Rattle.batch_record.specs.{Blocks.Stage, Blocks.opening_stage, Blocks.stage_after, Blocks.stages, Kept.Keeps, StatusReading.HasNoFeed, StatusReading.IsRefusedAt, StatusReading.LeadsTo, StatusReading.lines_text, Standings.EndsLine, Standings.HasRead, Standings.IsAt, declared.course.RecordCourse.RecordCourse, declared.status_reading.Reading.Reading}
+use Rattle.batch_record.specs.{Blocks.Stage, Blocks.opening_stage, Blocks.stage_after, Blocks.stages, Kept.Keeps, StatusReading.HasNoFeed, StatusReading.IsRefusedAt, StatusReading.LeadsTo, StatusReading.lines_text, Taking.EndsLine, Standings.HasRead, Standings.IsAt, declared.course.RecordCourse.RecordCourse, declared.status_reading.Reading.Reading}
 
 -- A line more
 
@@ -22,7 +22,7 @@ stages-on s x xs l t u h (Some mid) e k =
 stages-last : (s : Stage) (l : List ℕ) (u : Stage) → stage_after s l ≡ Some u → stages s (l ∷ []) ≡ Some u
 stages-last s l u e = ap (λ o. elim o [ None ↦ None | Some mid ↦ stages mid [] ]) e
 
-stages-more : (s : Stage) (ls : List (List ℕ)) (l : List ℕ) (t u : Stage) → stages s ls ≡ Some t → stage_after t l ≡ Some u → stages s (ls ++ l ∷ []) ≡ Some u
+pub stages-more : (s : Stage) (ls : List (List ℕ)) (l : List ℕ) (t u : Stage) → stages s ls ≡ Some t → stage_after t l ≡ Some u → stages s (ls ++ l ∷ []) ≡ Some u
 stages-more s [] l t u e k =
     let same : s ≡ t = cc e in
     stages-last s l u (ap (λ x. stage_after x l) same ∙ k)

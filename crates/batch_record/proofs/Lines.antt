@@ -2,27 +2,7 @@
 use Rattle.std.proofs.Common.{◌≡◌, ℕ, ◌+◌, ◌-◌, ◌^◌, List, [], ◌∷◌, ◌++◌, length, take, drop, min, Option, Some, None, true, false, Bool, refl, sym, ap, ◌∙◌, append_assoc, option_map}
 use Rattle.std.proofs.lemmas.List.{drop_more, take-append-drop}
 use Rattle.batch_model.specs.{Lists.Each, Runs.Out}
-use Rattle.batch_record.{specs.Laws.is_passed_over, specs.RecordLine.out_of_line, specs.Blocks.Stage, specs.Blocks.mark_of, specs.Blocks.stage_after_mark, specs.Blocks.opening_stage, specs.Blocks.stage_after, specs.Blocks.stages, specs.Blocks.stage_after_out, specs.StatusReading.HasNoFeed, specs.StatusReading.IsRefusedAt, specs.StatusReading.LeadsTo, specs.StatusReading.lines_text, specs.Taking.EndsLine, proofs.InputProgress.each-more, proofs.InputProgress.text-more, proofs.InputProgress.length-more, proofs.InputProgress.counted-more}
-
--- A line more
-
-stages-on : (s : Stage) (x : List ℕ) (xs : List (List ℕ)) (l : List ℕ) (t u : Stage)
-    → ((mid : Stage) → stages mid xs ≡ Some t → stages mid (xs ++ l ∷ []) ≡ Some u)
-    → (o : Option Stage) → stage_after s x ≡ o → stages s (x ∷ xs) ≡ Some t → stages s ((x ∷ xs) ++ l ∷ []) ≡ Some u
-stages-on s x xs l t u h None e k =
-    let bad : None ≡ Some t = sym (ap (λ o. elim o [ None ↦ None | Some mid ↦ stages mid xs ]) e) ∙ k in absurd (cc bad)
-stages-on s x xs l t u h (Some mid) e k =
-    ap (λ o. elim o [ None ↦ None | Some mid ↦ stages mid (xs ++ l ∷ []) ]) e
-    ∙ h mid (sym (ap (λ o. elim o [ None ↦ None | Some mid ↦ stages mid xs ]) e) ∙ k)
-
-stages-last : (s : Stage) (l : List ℕ) (u : Stage) → stage_after s l ≡ Some u → stages s (l ∷ []) ≡ Some u
-stages-last s l u e = ap (λ o. elim o [ None ↦ None | Some mid ↦ stages mid [] ]) e
-
-stages-more : (s : Stage) (ls : List (List ℕ)) (l : List ℕ) (t u : Stage) → stages s ls ≡ Some t → stage_after t l ≡ Some u → stages s (ls ++ l ∷ []) ≡ Some u
-stages-more s [] l t u e k =
-    let same : s ≡ t = cc e in
-    stages-last s l u (ap (λ x. stage_after x l) same ∙ k)
-stages-more s (x ∷ xs) l t u e k = stages-on s x xs l t u (λ mid h. stages-more mid xs l t u h k) (stage_after s x) refl e
+use Rattle.batch_record.{specs.Laws.is_passed_over, specs.RecordLine.out_of_line, specs.Blocks.Stage, specs.Blocks.mark_of, specs.Blocks.stage_after_mark, specs.Blocks.opening_stage, specs.Blocks.stage_after, specs.Blocks.stages, specs.Blocks.stage_after_out, specs.StatusReading.HasNoFeed, specs.StatusReading.IsRefusedAt, specs.StatusReading.LeadsTo, specs.StatusReading.lines_text, specs.Taking.EndsLine, proofs.InputProgress.each-more, proofs.InputProgress.parted, proofs.InputProgress.stages-more, proofs.InputProgress.text-more, proofs.InputProgress.length-more, proofs.InputProgress.counted-more}
 
 -- The progress of reading a text
 
@@ -37,10 +17,6 @@ pub record HasTaken (text rest : List ℕ) (number : ℕ) : Type 0 where
 
 pub nothing-taken : (text : List ℕ) → HasTaken text text 0
 nothing-taken text = record { lines = []; stage = opening_stage; whole = tt; split = refl; stages = refl; counted = refl }
-
-pub parted : (rest : List ℕ) (at : ℕ) → EndsLine at rest → rest ≡ take at rest ++ 10 ∷ drop (at + 1) rest
-parted rest at e =
-    sym (take-append-drop at rest) ∙ ap (λ l. take at rest ++ l) (drop_more rest at 0 e.within ∙ ap (λ b. b ∷ drop (at + 1) rest) e.feed)
 
 next-number : (number told : ℕ) (lines : List (List ℕ)) (line : List ℕ) → number ≡ min (length lines) (2 ^ 64 - 1) → told ≡ min (number + 1) (2 ^ 64 - 1)
     → told ≡ min (length (lines ++ line ∷ [])) (2 ^ 64 - 1)

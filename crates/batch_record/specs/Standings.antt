@@ -1,12 +1,10 @@
 -- private: the progress of reading.
-use Rattle.std.specs.Prelude.{◌≡◌, ℕ, ◌-◌, ◌^◌, ◌<◌, List, [], ◌∷◌, ◌++◌, length, take, get_or, min, Option, Some, None, ⊤, Result, MatchResult}
+use Rattle.std.specs.Prelude.{◌≡◌, ℕ, ◌-◌, ◌^◌, List, [], ◌∷◌, ◌++◌, length, min, Option, Some, None, ⊤, Result, MatchResult}
 use Rattle.batch_record.specs.Blocks.{Stage, opening_stage, stage_after, stages}
 use Rattle.batch_record.specs.Kept.{Keeps}
 use Rattle.batch_record.specs.StatusReading.{HasNoFeed, IsRefusedAt, IsText}
 use Rattle.batch_record.specs.Telling.{Tale}
 use Rattle.batch_record.specs.declared.course.RecordCourse.{RecordCourse}
-use Rattle.batch_record.specs.declared.course.LineFault.{LineFault}
-use Rattle.batch_record.specs.declared.course.LineFault.TheVariants as faults
 use Rattle.batch_record.specs.declared.status_reading.StatusFault.{StatusFault}
 use Rattle.batch_record.specs.declared.status_reading.StatusFault.TheVariants as status_faults
 use Rattle.batch_record.specs.declared.status_reading.Reading.{Reading}
@@ -22,11 +20,12 @@ pub record IsAt (course : RecordCourse) (stage : Stage) : Type 0 where
   pub tale : Keeps course.status stage.tale
   pub block : KeepsBlock course.block stage.block
 
--- a line was taken, or is none of a record
-abbrev pub Takes : RecordCourse → List ℕ → Result (Unit {0}) LineFault → RecordCourse → Type 0
-Takes old line result new =
+-- the line with this number was taken, or is none of a record
+abbrev pub Takes : RecordCourse → List ℕ → ℕ → Result (Unit {0}) StatusFault → RecordCourse → Type 0
+Takes old line number result new =
     (stage : Stage) → IsAt old stage
-    → MatchResult result (λ _. (next : Stage) × (stage_after stage line ≡ Some next) × IsAt new next) (λ fault. fault ≡ faults.NoRecord → stage_after stage line ≡ None)
+    → MatchResult result (λ _. (next : Stage) × (stage_after stage line ≡ Some next) × IsAt new next)
+    (λ fault. (told : ℕ) → fault ≡ status_faults.NoRecord told → (told ≡ number) × (stage_after stage line ≡ None))
 
 -- the bytes were read: whole lines, and the beginning of the line after them
 pub record HasRead (reading : Reading) (read : List ℕ) : Type 0 where
@@ -36,12 +35,6 @@ pub record HasRead (reading : Reading) (read : List ℕ) : Type 0 where
   pub stages : stages opening_stage lines ≡ Some stage
   pub is_at : IsAt reading.course stage
   pub counted : reading.count ≡ min (length lines) (2 ^ 64 - 1)
-
--- the first line feed in the bytes is there
-pub record EndsLine (at : ℕ) (bytes : List ℕ) : Type 0 where
-  pub within : at < length bytes
-  pub feed : get_or bytes at 0 ≡ 10
-  pub before : HasNoFeed (take at bytes)
 
 -- the line ends with these bytes, or is none of a record, whatever was read before and whatever follows it
 abbrev pub Ends : Reading → List ℕ → Result (Unit {0}) StatusFault → Reading → Type 0

@@ -123,10 +123,8 @@ impl Axis {
 
 /// The step between two ticks, at least 1, so that there are few of them.
 fn step_of(steps: &[u64], span: u64) -> u64 {
-    for step in steps {
-        if span / (*step).max(1) < MOST_TICKS {
-            return (*step).max(1);
-        }
-    }
-    (span / MOST_TICKS).max(1)
+    let step = steps
+        .iter()
+        .find(|step| span / (**step).max(1) < MOST_TICKS);
+    step.copied().unwrap_or(span / MOST_TICKS).max(1)
 }

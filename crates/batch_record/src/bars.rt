@@ -66,13 +66,9 @@ impl Ending<'_> {
         match self {
             Ending::Share(ended) => share.is(ended),
             Ending::AsksOf(batch) => share.waits && share.batch == batch,
-            Ending::Unlisted(listed) => !is_among(share, listed),
+            Ending::Unlisted(listed) => !listed.iter().any(|other| share.is(other)),
         }
     }
-}
-
-fn is_among(share: &Share, listed: &[Share]) -> bool {
-    listed.iter().any(|other| share.is(other))
 }
 
 /// All bars, in the order in which they begin.
@@ -103,19 +99,20 @@ impl Bars {
     }
 
     /// Ends these bars.
-    pub fn end(&mut self, alloc: Global, ending: Ending<'_>, now: u64) -> Result<(), AllocError> {
-        self.standing = still_standing(alloc, &mut self.all, &self.standing, ending, now)?;
-        Ok(())
+    pub fn end(&mut self, ending: Ending<'_>, now: u64) {
+        let Bars { all, standing } = self;
+        standing.retain(|number| match all.get_mut(*number) {
+            Some(bar) if ending.ends(&bar.share) => {
+                bar.to = Some(now);
+                false
+            }
+            _ => true,
+        });
     }
 
     /// The shares that a recovery block lists stand, and no others.
-    pub fn replace(
-        &mut self,
-        alloc: Global,
-        listed: Vec<Share>,
-        now: u64,
-    ) -> Result<(), AllocError> {
-        self.end(alloc, Ending::Unlisted(&listed), now)?;
+    pub fn replace(&mut self, listed: Vec<Share>, now: u64) -> Result<(), AllocError> {
+        self.end(Ending::Unlisted(&listed), now);
         for share in listed {
             if !self.has(&share) {
                 self.begin(share, now)?;
@@ -126,33 +123,9 @@ impl Bars {
 
     /// Whether the share stands.
     fn has(&self, share: &Share) -> bool {
-        for number in &self.standing {
-            if let Some(bar) = self.all.get(*number) {
-                if bar.share.is(share) {
-                    return true;
-                }
-            }
-        }
-        false
+        self.standing
+            .iter()
+            .filter_map(|number| self.all.get(*number))
+            .any(|bar| bar.share.is(share))
     }
-}
-
-fn still_standing(
-    alloc: Global,
-    bars: &mut [Bar],
-    standing: &[usize],
-    ending: Ending<'_>,
-    now: u64,
-) -> Result<Vec<usize>, AllocError> {
-    let mut still = Vec::new(alloc);
-    for number in standing {
-        if let Some(bar) = bars.get_mut(*number) {
-            if ending.ends(&bar.share) {
-                bar.to = Some(now);
-            } else {
-                still.push(*number)?;
-            }
-        }
-    }
-    Ok(still)
 }

@@ -1,10 +1,10 @@
 //! The listed batches, by the lines of a record.
 ghost use Rattle.std.specs.Prelude.{◌≡◌, ℕ, None, OnOk};
 ghost use Rattle.batch_record.specs.Reading.{out_told};
-ghost use Rattle.batch_record.specs.Kept.{BatchesAfter, ListsBatch, TellsState, UnlistsBatch, listed_in, listed_of};
+ghost use Rattle.batch_record.specs.Kept.{BatchesAfter, ListsBatch, TellsState, UnlistsBatch, listed_in};
 
 use crate::memory::{NoMemory, read_name};
-use crate::told::RecordedOut;
+use crate::told::{Created, RecordedOut};
 use batch_matrix::State;
 use batch_text::Name;
 use std::alloc::Global;
@@ -39,31 +39,23 @@ impl Batches {
         ensures { OnOk result (BatchesAfter self.old (out_told told.entry) self.new) }
     {
         match told {
-            RecordedOut::Created(created) => self.add(
-                alloc,
-                created.batch,
-                created.recipe,
-                created.size,
-                State::Idle,
-            ),
-            RecordedOut::Ordered { batch, state, .. } => {
+            RecordedOut::Created(created) => {
+                let Created {
+                    batch,
+                    recipe,
+                    size,
+                    ..
+                } = created;
+                self.add(alloc, batch, recipe, size, State::Idle)?;
+            }
+            RecordedOut::Ordered { batch, state, .. } | RecordedOut::Stated { batch, state } => {
                 self.set_state(batch, state);
-                Ok(())
             }
-            RecordedOut::Stated { batch, state } => {
-                self.set_state(batch, state);
-                Ok(())
-            }
-            RecordedOut::Reported(report) => {
-                self.set_state(report.batch, report.state);
-                Ok(())
-            }
-            RecordedOut::Removed { batch } => {
-                self.remove(batch);
-                Ok(())
-            }
-            _ => Ok(()),
+            RecordedOut::Reported(report) => self.set_state(report.batch, report.state),
+            RecordedOut::Removed { batch } => self.remove(batch),
+            _ => {}
         }
+        Ok(())
     }
 
     /// Lists a batch.
@@ -77,20 +69,11 @@ impl Batches {
     ) -> Result<(), NoMemory>
         ensures { OnOk result (ListsBatch self.old number (record { recipe = recipe.now; size = size; state = state }) self.new) }
     {
-        let recipe = read_name(alloc, recipe)?;
-        self.put(
-            number,
-            Batch {
-                recipe,
-                size,
-                state,
-            },
-        )
-    }
-
-    fn put(&mut self, number: u64, batch: Batch) -> Result<(), NoMemory>
-        ensures { OnOk result (ListsBatch self.old number (listed_of batch) self.new) }
-    {
+        let batch = Batch {
+            recipe: read_name(alloc, recipe)?,
+            size,
+            state,
+        };
         match self.listed.insert(number, batch) {
             Ok(_) => Ok(()),
             Err(_) => Err(NoMemory),

@@ -1,9 +1,8 @@
 //! The lines of recovery blocks.
-ghost use Rattle.std.specs.Prelude.{◌≡◌, ◌∷◌, [], Some, true, false, MatchOption, OnOk};
-ghost use Rattle.batch_text.specs.NumberText.{number_of};
+ghost use Rattle.std.specs.Prelude.{OnOk};
 ghost use Rattle.batch_record.specs.Reading.{GivesAsDefined, claim_told};
 ghost use Rattle.batch_record.specs.RecordLine.{words_left};
-ghost use Rattle.batch_record.specs.Blocks.{batch_row_of, batch_row_with, begins_of, claim_of_row, ends_of, is_unit_count, live_row_of, mark_of, mark_of_words, mark_with, row_with, tale_with};
+ghost use Rattle.batch_record.specs.Blocks.{batch_row_of, begins_of, claim_of_row, ends_of, live_row_of, mark_of, mark_of_words, mark_with, row_with, tale_with};
 ghost use Rattle.batch_record.specs.Kept.{Keeps};
 ghost use Rattle.batch_record.specs.Marks.{mark_told, row_told};
 ghost use Rattle.batch_record.specs.Telling.{Tale};
@@ -12,7 +11,7 @@ use crate::memory::NoMemory;
 use crate::read::phase_with;
 use crate::status::Status;
 use crate::told::{Claim, PhaseStep};
-use crate::word::{is_plain_place, plain_number, state_of};
+use crate::word::{is_plain_place, plain_number, read_units, state_of};
 use crate::words::Words;
 use batch_matrix::State;
 use batch_text::is_name;
@@ -145,17 +144,6 @@ fn read_batch(mut arguments: Words<'_>) -> Option<Row<'_>>
         return None;
     }
     let state = state_of(state)?;
-    batch_with(number, recipe, size, state)
-}
-
-fn batch_with<'a>(
-    number: &'a [u8],
-    recipe: &'a [u8],
-    size: &'a [u8],
-    state: State,
-) -> Option<Row<'a>>
-    ensures { GivesAsDefined row_told result (batch_row_with number.now recipe.now size.now (Some state)) }
-{
     let number = plain_number(number)?;
     let size = plain_number(size)?;
     if is_name(recipe) {
@@ -180,19 +168,8 @@ fn read_claim(mut arguments: Words<'_>) -> Option<Claim<'_>>
     if arguments.next().is_some() {
         return None;
     }
-    claim_with(resource, number, place, units)
-}
-
-fn claim_with<'a>(
-    resource: &'a [u8],
-    number: &'a [u8],
-    place: &'a [u8],
-    units: &'a [u8],
-) -> Option<Claim<'a>>
-    ensures { GivesAsDefined claim_told result (claim_of_row (resource.now ∷ number.now ∷ place.now ∷ units.now ∷ [])) }
-{
     let batch = plain_number(number)?;
-    let units = unit_count(units)?;
+    let units = read_units(units, 0)?;
     if is_plain_place(place) && is_name(resource) {
         Some(Claim {
             batch,
@@ -200,19 +177,6 @@ fn claim_with<'a>(
             resource,
             units,
         })
-    } else {
-        None
-    }
-}
-
-/// The number of units that the word is: 1 at least, and no more than 32 bits count.
-fn unit_count(word: &[u8]) -> Option<u32>
-    ensures { MatchOption result (is_unit_count word.now ≡ false)
-        (λ units. (is_unit_count word.now ≡ true) × (units ≡ number_of word.now)) }
-{
-    let number = plain_number(word)?;
-    if number > 0 && number <= 4_294_967_295 {
-        Some(number as u32)
     } else {
         None
     }

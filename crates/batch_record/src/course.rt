@@ -1,5 +1,5 @@
 //! A record's lines, one after the other, with the recovery blocks in it.
-ghost use Rattle.std.specs.Prelude.{◌≡◌, Some, OnOk, option_map};
+ghost use Rattle.std.specs.Prelude.{Some, OnOk, option_map};
 ghost use Rattle.batch_record.specs.Reading.{out_told};
 ghost use Rattle.batch_record.specs.Blocks.{Stage, ends, stage_after_mark, opening_stage, row as row_mark, stage_after_out};
 ghost use Rattle.batch_record.specs.Marks.{mark_told, row_told};
@@ -9,27 +9,9 @@ use crate::block::{Mark, Row, read_mark};
 use crate::memory::NoMemory;
 use crate::record_line::{NoRecordLine, read_record_line};
 use crate::status::Status;
+use crate::status_reading::StatusFault;
 use crate::told::RecordedOut;
 use std::alloc::Global;
-
-/// Why a line wasn't applied.
-#[derive(Clone, Copy)]
-pub enum LineFault {
-    /// The line is no line of a record.
-    NoRecord,
-    /// Memory was refused. The line may be applied in part.
-    Memory,
-}
-
-impl From<NoMemory> for LineFault {
-    ghost use Rattle.batch_record.specs.declared.course.LineFault.TheVariants as faults;
-
-    ghost from_gives = { λ _ fault. fault ≡ faults.Memory };
-
-    fn from(_fault: NoMemory) -> LineFault {
-        LineFault::Memory
-    }
-}
 
 /// The state by a record so far, and that by a recovery block that hasn't ended.
 #[derive(Drop)]
@@ -49,14 +31,14 @@ impl RecordCourse {
         }
     }
 
-    /// Reads a line, which comes without its line feed.
-    pub fn apply_line(&mut self, alloc: Global, line: &[u8]) -> Result<(), LineFault>
-        ensures { Takes self.old line.now result self.new }
+    /// Reads the line with this number, which comes without its line feed. If memory is refused, it may be applied in part.
+    pub fn apply_line(&mut self, alloc: Global, line: &[u8], number: u64) -> Result<(), StatusFault>
+        ensures { Takes self.old line.now number result self.new }
     {
         match read_record_line(line) {
             Ok(Some(told)) => Ok(self.apply_out(alloc, told)?),
             Ok(None) => Ok(self.mark(alloc, read_mark(line))?),
-            Err(NoRecordLine) => Err(LineFault::NoRecord),
+            Err(NoRecordLine) => Err(StatusFault::NoRecord(number)),
         }
     }
 

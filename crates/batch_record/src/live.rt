@@ -7,7 +7,7 @@ ghost use Rattle.batch_record.specs.Kept.{changed_by, is_elsewhere, phase_change
 ghost use Rattle.batch_recipe.specs.Conditions.{Name};
 ghost use Rattle.batch_record.specs.Listing.{live_cmp, on_unit};
 ghost use Rattle.std.specs.List.Sorted.{IsSorted};
-ghost use Rattle.batch_record.specs.Telling.{led_by, moved_at, said_by};
+ghost use Rattle.batch_record.specs.Telling.{moved_at, said_by};
 
 use crate::memory::{NoMemory, read_name, read_place};
 use crate::told::{PhaseStep, RecordedOut, Reported, Sent};
@@ -63,10 +63,7 @@ impl LivePhases {
         ensures sorted { OnOk result (IsSorted live_cmp (lives_of self.new.phases.items)) }
         ensures stable { (unit name : Name) → on_unit unit name (lives_of self.new.phases.items) ≡ on_unit unit name (lives_of self.old.phases.items) }
     {
-        match self.phases.sort_by(|live, other| compare(live, other)) {
-            Ok(()) => Ok(()),
-            Err(_) => Err(NoMemory),
-        }
+        Ok(self.phases.sort_by(|live, other| compare(live, other))?)
     }
 
     /// Applies an out to the live phases.
@@ -85,25 +82,14 @@ impl LivePhases {
     pub fn add(&mut self, alloc: Global, step: PhaseStep<'_>, state: State) -> Result<(), NoMemory>
         ensures { OnOk result (lives_of self.new.phases.items ≡ lives_of self.old.phases.items ++ live_at_step (phase_told step.entry) state ∷ []) }
     {
-        let place = read_place(alloc, step.place)?;
-        let unit = read_name(alloc, step.unit)?;
-        let phase = read_name(alloc, step.phase)?;
-        self.push(LivePhase {
+        let live = LivePhase {
             batch: step.batch,
-            place,
-            unit,
-            phase,
+            place: read_place(alloc, step.place)?,
+            unit: read_name(alloc, step.unit)?,
+            phase: read_name(alloc, step.phase)?,
             state,
-        })
-    }
-
-    fn push(&mut self, live: LivePhase) -> Result<(), NoMemory>
-        ensures { OnOk result (self.new.phases.items ≡ self.old.phases.items ++ live ∷ []) }
-    {
-        match self.phases.push(live) {
-            Ok(()) => Ok(()),
-            Err(_) => Err(NoMemory),
-        }
+        };
+        self.phases.push(live).map_err(|_| NoMemory)
     }
 
     fn send(&mut self, alloc: Global, told: Sent<'_>) -> Result<(), NoMemory>
@@ -181,16 +167,9 @@ fn changed_by(change: Change, now: State) -> State
     ensures { result ≡ changed_by change now }
 {
     match change {
-        Change::Led(command) => led_by(command, now),
+        Change::Led(command) => after(now, command).unwrap_or(now),
         Change::Said(word) => said_by(word, now),
     }
-}
-
-/// The state to which the command leads, or the same if it isn't accepted.
-fn led_by(command: Command, now: State) -> State
-    ensures { result ≡ led_by command now }
-{
-    after(now, command).unwrap_or(now)
 }
 
 /// The state of a phase that goes on after the report.

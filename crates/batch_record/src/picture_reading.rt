@@ -1,16 +1,15 @@
 //! Reading a record for its picture, line by line.
-ghost use Rattle.std.specs.Prelude.{◌≡◌, ℕ, IfErr, IfOk, MatchOption};
-ghost use Rattle.batch_record.specs.StatusReading.{HasNoFeed, IsRefusedAt};
+ghost use Rattle.std.specs.Prelude.{◌≡◌, ℕ, IfErr, IfOk};
+ghost use Rattle.batch_record.specs.StatusReading.{IsRefusedAt};
 ghost use Rattle.batch_record.specs.Recorded.{IsRecord};
-ghost use Rattle.batch_record.specs.Taking.{EndsLine, TakesLine, TakesLines};
+ghost use Rattle.batch_record.specs.Taking.{TakesLine, TakesLines};
 ghost use Rattle.batch_record.specs.declared.picture_reading.RecordFault.TheVariants as faults;
 
 use crate::drawing::draw;
+use crate::line_ends::line_feed;
 use crate::picture::Picture;
 use crate::record_line::{NoRecordLine, read_record_line};
-use crate::remark::{Remark, read_remark};
-use crate::timeline::Timeline;
-use memchr::memchr;
+use crate::timeline::{Timeline, time_of};
 use std::alloc::{AllocError, Global};
 use thiserror::Error;
 
@@ -50,23 +49,9 @@ pub fn draw_record(alloc: Global, text: &[u8]) -> Result<Picture, RecordFault>
 
 /// The first time in a comment.
 fn first_time(text: &[u8]) -> Option<u64> {
-    let mut rest = text;
-    while let Some(at) = line_feed(rest) {
-        let time = time_of(&rest[..at]);
-        rest = &rest[at + 1..];
-        if time.is_some() {
-            return time;
-        }
-    }
-    None
-}
-
-/// The time in the line, if it is a comment on times.
-fn time_of(line: &[u8]) -> Option<u64> {
-    match read_remark(line) {
-        Some(Remark::At(time)) => Some(time),
-        _ => None,
-    }
+    text.split_inclusive(|byte| *byte == b'\n')
+        .filter_map(|line| line.strip_suffix(b"\n"))
+        .find_map(|line| time_of(line))
 }
 
 /// Applies each whole line to the timeline.
@@ -95,17 +80,7 @@ fn apply_line(
 {
     match read_record_line(line) {
         Ok(Some(told)) => Ok(timeline.apply_out(alloc, told)?),
-        Ok(None) => match read_remark(line) {
-            Some(remark) => Ok(timeline.apply_remark(alloc, remark)?),
-            None => Ok(()),
-        },
+        Ok(None) => Ok(timeline.apply_comment(alloc, line)?),
         Err(NoRecordLine) => Err(RecordFault::NoRecord(number)),
     }
-}
-
-/// The position of the first line feed.
-fn line_feed(bytes: &[u8]) -> Option<usize>
-    ensures { MatchOption result (HasNoFeed bytes.now) (λ at. EndsLine at bytes.now) }
-{
-    memchr(b'\n', bytes)
 }

@@ -1,7 +1,6 @@
 //! Reading a line of a record.
-ghost use Rattle.std.specs.Prelude.{◌≡◌, ◌∷◌, [], Some, MatchOption};
-ghost use Rattle.batch_wire.specs.EventLine.{word_of_report};
-ghost use Rattle.batch_record.specs.RecordLine.{words_left, need_of_word, state_of_word, claim_told_of, claim_with, batch_state_of, batch_state_with, removed_of, report_told_of, report_with, order_of_words, ok_of, other_of, begun_of, passed_of, passed_with, ended_of, phase_with, sent_of, started_of, created_of, refusal_of_words, code_alone, state_alone, formula_refusal_of_words, left_out_of, out_of_words, out_of_line};
+ghost use Rattle.std.specs.Prelude.{◌≡◌, ◌∷◌, MatchOption};
+ghost use Rattle.batch_record.specs.RecordLine.{words_left, need_of_word, claim_told_of, claim_with, batch_state_of, removed_of, report_told_of, ok_of, other_of, begun_of, passed_of, ended_of, phase_with, sent_of, started_of, created_of, refusal_of_words, code_alone, state_alone, formula_refusal_of_words, left_out_of, out_of_words, out_of_line};
 ghost use Rattle.batch_record.specs.Laws.{TellsOut, TellsNothing};
 ghost use Rattle.batch_record.specs.Reading.{GivesAsDefined, claim_told, report_told, begun_told, claim_and_place_told, ended_told, phase_told, sent_told, started_told, created_told, refusal_told, out_told};
 
@@ -11,7 +10,7 @@ use crate::told::{
 };
 use crate::word::{is_plain_place, plain_number, read_need, state_of};
 use crate::words::Words;
-use batch_matrix::{Command, State};
+use batch_matrix::State;
 use batch_text::is_name;
 use batch_wire::{command_of, word_of_report};
 
@@ -77,12 +76,6 @@ fn read_begun(mut arguments: Words<'_>) -> Option<Begun<'_>>
     if arguments.next().is_some() {
         return None;
     }
-    begun_with(batch, place, name)
-}
-
-fn begun_with<'a>(batch: &'a [u8], place: &'a [u8], name: &'a [u8]) -> Option<Begun<'a>>
-    ensures { GivesAsDefined begun_told result (begun_of (batch.now ∷ place.now ∷ name.now ∷ [])) }
-{
     let batch = plain_number(batch)?;
     if is_plain_place(place) && is_name(name) {
         Some(Begun { batch, place, name })
@@ -100,12 +93,6 @@ fn read_ended(mut arguments: Words<'_>) -> Option<Ended<'_>>
     if arguments.next().is_some() {
         return None;
     }
-    ended_with(batch, place)
-}
-
-fn ended_with<'a>(batch: &'a [u8], place: &'a [u8]) -> Option<Ended<'a>>
-    ensures { GivesAsDefined ended_told result (ended_of (batch.now ∷ place.now ∷ [])) }
-{
     let batch = plain_number(batch)?;
     if is_plain_place(place) {
         Some(Ended { batch, place })
@@ -179,25 +166,14 @@ fn read_created(mut arguments: Words<'_>) -> Option<Created<'_>>
     let batch = arguments.next()?;
     let recipe = arguments.next()?;
     let size = arguments.next()?;
-    created_with(batch, recipe, size, arguments)
-}
-
-fn created_with<'a>(
-    batch: &'a [u8],
-    recipe: &'a [u8],
-    size: &'a [u8],
-    roles: Words<'a>,
-) -> Option<Created<'a>>
-    ensures { GivesAsDefined created_told result (created_of (batch.now ∷ recipe.now ∷ size.now ∷ words_left roles.entry.rest)) }
-{
     let batch = plain_number(batch)?;
     let size = plain_number(size)?;
-    if is_name(recipe) && are_role_pairs(roles) {
+    if is_name(recipe) && are_role_pairs(arguments) {
         Some(Created {
             batch,
             recipe,
             size,
-            roles,
+            roles: arguments,
         })
     } else {
         None
@@ -340,17 +316,6 @@ fn read_passed(mut arguments: Words<'_>) -> Option<Passed<'_>>
     if arguments.next().is_some() {
         return None;
     }
-    passed_with(batch, place, to, need)
-}
-
-fn passed_with<'a>(
-    batch: &'a [u8],
-    place: &'a [u8],
-    to: &'a [u8],
-    need: &'a [u8],
-) -> Option<Passed<'a>>
-    ensures { GivesAsDefined claim_and_place_told result (passed_with to.now (claim_with batch.now place.now (need_of_word need.now))) }
-{
     let claim = claim_with(batch, place, need)?;
     if is_plain_place(to) {
         Some(Passed { claim, to })
@@ -368,12 +333,6 @@ fn read_batch(mut arguments: Words<'_>) -> Option<(u64, State)>
     if arguments.next().is_some() {
         return None;
     }
-    batch_with(batch, state)
-}
-
-fn batch_with(batch: &[u8], state: &[u8]) -> Option<(u64, State)>
-    ensures { result ≡ batch_state_with batch.now (state_of_word state.now) }
-{
     let state = state_of(state)?;
     let batch = plain_number(batch)?;
     Some((batch, state))
@@ -402,13 +361,8 @@ fn read_ok(mut line: Words<'_>) -> Option<RecordedOut<'_>>
         let batch = read_removed(line)?;
         return Some(RecordedOut::Removed { batch });
     }
-    read_order(command_of(first)?, line)
-}
-
-fn read_order(command: Command, arguments: Words<'_>) -> Option<RecordedOut<'_>>
-    ensures { GivesAsDefined out_told result (order_of_words (Some command) (words_left arguments.entry.rest)) }
-{
-    let (batch, state) = read_batch(arguments)?;
+    let command = command_of(first)?;
+    let (batch, state) = read_batch(line)?;
     Some(RecordedOut::Ordered {
         command,
         batch,
@@ -429,19 +383,6 @@ fn read_report(mut arguments: Words<'_>) -> Option<Reported<'_>>
     if arguments.next().is_some() {
         return None;
     }
-    report_with(unit, phase, word, batch, place, state)
-}
-
-fn report_with<'a>(
-    unit: &'a [u8],
-    phase: &'a [u8],
-    word: &'a [u8],
-    batch: &'a [u8],
-    place: &'a [u8],
-    state: &'a [u8],
-) -> Option<Reported<'a>>
-    ensures { GivesAsDefined report_told result (report_with unit.now phase.now batch.now place.now (word_of_report word.now) (state_of_word state.now)) }
-{
     let word = word_of_report(word)?;
     let state = state_of(state)?;
     let batch = plain_number(batch)?;

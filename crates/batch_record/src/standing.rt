@@ -1,9 +1,10 @@
 //! The standing shares of resources, by the lines of a record.
-ghost use Rattle.std.specs.Prelude.{◌≡◌, ◌++◌, ◌∷◌, [], filter, not, nat_eq, OnOk, OnErr};
+ghost use Rattle.std.specs.Prelude.{◌≡◌, ◌++◌, ◌∷◌, [], filter, IfOk, OnOk, OnErr};
 ghost use Rattle.std.specs.List.Sorted.{IsSorted};
 ghost use Rattle.batch_recipe.specs.Conditions.{Name};
+ghost use Rattle.batch_text.specs.PlaceText.{numbers_of};
 ghost use Rattle.batch_model.specs.Plant.{BatchAct};
-ghost use Rattle.batch_record.specs.Listing.{act_cmp, holder_cmp, waiter_cmp, of_act};
+ghost use Rattle.batch_record.specs.Listing.{holder_cmp, waiter_cmp, of_act};
 ghost use Rattle.batch_record.specs.Kept.{kept_act, kept_claim, kept_claims, shares_of_resource, is_other, HoldersAfter, WaitersAfter, ShareJoins, Leaves, Passes, BatchLeaves, LeavesAt};
 ghost use Rattle.batch_record.specs.Reading.{out_told, claim_told, claim_and_place_told};
 
@@ -21,6 +22,25 @@ pub struct Kept {
     pub batch: u64,
     pub place: Place,
     pub units: u32,
+}
+
+impl Kept {
+    /// The share of the claim.
+    fn of(alloc: Global, claim: Claim<'_>) -> Result<Kept, NoMemory>
+        ensures { IfOk result (λ kept. kept ≡ record {
+          resource = claim.entry.resource.now;
+          batch = claim.entry.batch;
+          place = numbers_of claim.entry.place.now;
+          units = claim.entry.units;
+        }) }
+    {
+        Ok(Kept {
+            resource: read_name(alloc, claim.resource)?,
+            batch: claim.batch,
+            place: read_place(alloc, claim.place)?,
+            units: claim.units,
+        })
+    }
 }
 
 /// Shares of resources, the oldest first.
@@ -52,13 +72,10 @@ impl Standing {
         ensures stable { (resource : Name) (act : BatchAct) → of_act act (shares_of_resource resource self.new.shares.items)
             ≡ of_act act (shares_of_resource resource self.old.shares.items) }
     {
-        match self
-            .shares
-            .sort_by(|kept, other| compare_holders(kept, other))
-        {
-            Ok(()) => Ok(()),
-            Err(_) => Err(NoMemory),
-        }
+        Ok(
+            self.shares
+                .sort_by(|kept, other| compare_holders(kept, other))?,
+        )
     }
 
     /// Sorts the shares by resource, then as they came.
@@ -66,56 +83,12 @@ impl Standing {
         ensures sorted { OnOk result (IsSorted waiter_cmp (kept_claims self.new.shares.items)) }
         ensures stable { (resource : Name) → shares_of_resource resource self.new.shares.items ≡ shares_of_resource resource self.old.shares.items }
     {
-        match self
-            .shares
-            .sort_by(|kept, other| compare_waiters(kept, other))
-        {
-            Ok(()) => Ok(()),
-            Err(_) => Err(NoMemory),
-        }
+        Ok(
+            self.shares
+                .sort_by(|kept, other| compare_waiters(kept, other))?,
+        )
     }
 
-    fn join(&mut self, kept: Kept) -> Result<(), NoMemory>
-        ensures ok { OnOk result (self.new.shares.items ≡ self.old.shares.items ++ kept ∷ []) }
-        ensures err { OnErr result (self.new.shares.items ≡ self.old.shares.items) }
-    {
-        match self.shares.push(kept) {
-            Ok(()) => Ok(()),
-            Err(_) => Err(NoMemory),
-        }
-    }
-
-    fn leave(&mut self, resource: &Name, batch: u64, place: &Place)
-        ensures { self.new.shares.items ≡ filter (is_other resource.now (batch, place.now)) self.old.shares.items }
-    {
-        self.shares.retain(|kept| !(*resource == kept.resource
-            && kept.batch == batch
-            && kept.place == *place));
-    }
-
-    /// The share joins, and that of the same batch at the place leaves.
-    fn take_over(&mut self, place: &Place, kept: Kept) -> Result<(), NoMemory>
-        ensures ok { OnOk result (self.new.shares.items ≡ filter (is_other kept.resource (kept.batch, place.now)) self.old.shares.items ++ kept ∷ []) }
-        ensures err { OnErr result (self.new.shares.items ≡ self.old.shares.items) }
-    {
-        if self.shares.reserve(1).is_err() {
-            return Err(NoMemory);
-        }
-        self.shares.retain(|share| !(kept.resource == share.resource
-            && share.batch == kept.batch
-            && share.place == *place));
-        self.shares.push_reserved(kept);
-        Ok(())
-    }
-
-    fn leave_batch(&mut self, batch: u64)
-        ensures { self.new.shares.items ≡ filter (λ kept. not (nat_eq kept.batch batch)) self.old.shares.items }
-    {
-        self.shares.retain(|kept| kept.batch != batch);
-    }
-}
-
-impl Standing {
     /// Applies an out to the shares of holders.
     pub fn apply_to_holders(&mut self, alloc: Global, told: RecordedOut<'_>) -> Result<(), NoMemory>
         ensures ok { OnOk result (HoldersAfter self.old.shares.items (out_told told.entry) self.new.shares.items) }
@@ -157,30 +130,47 @@ impl Standing {
     fn batch_leaves(&mut self, batch: u64)
         ensures { BatchLeaves batch self.old.shares.items self.new.shares.items }
     {
-        self.leave_batch(batch);
+        self.shares.retain(|kept| kept.batch != batch);
+    }
+
+    /// The act's share of the resource leaves.
+    fn leave(&mut self, left: &Kept)
+        ensures { self.new.shares.items ≡ filter (is_other left.now.resource (kept_act left.now)) self.old.shares.items }
+    {
+        self.shares.retain(|kept| !(left.resource == kept.resource
+            && kept.batch == left.batch
+            && kept.place == left.place));
+    }
+
+    /// The share joins, and that of the same batch at the place leaves.
+    fn take_over(&mut self, place: &Place, kept: Kept) -> Result<(), NoMemory>
+        ensures ok { OnOk result (self.new.shares.items ≡ filter (is_other kept.resource (kept.batch, place.now)) self.old.shares.items ++ kept ∷ []) }
+        ensures err { OnErr result (self.new.shares.items ≡ self.old.shares.items) }
+    {
+        if self.shares.reserve(1).is_err() {
+            return Err(NoMemory);
+        }
+        self.shares.retain(|share| !(kept.resource == share.resource
+            && share.batch == kept.batch
+            && share.place == *place));
+        self.shares.push_reserved(kept);
+        Ok(())
     }
 
     pub(crate) fn claim_joins(&mut self, alloc: Global, claim: Claim<'_>) -> Result<(), NoMemory>
         ensures ok { OnOk result (ShareJoins self.old.shares.items (claim_told claim.entry) self.new.shares.items) }
         ensures err { OnErr result (self.new.shares.items ≡ self.old.shares.items) }
     {
-        let resource = read_name(alloc, claim.resource)?;
-        let place = read_place(alloc, claim.place)?;
-        self.join(Kept {
-            resource,
-            batch: claim.batch,
-            place,
-            units: claim.units,
-        })
+        let joined = Kept::of(alloc, claim)?;
+        self.shares.push(joined).map_err(|_| NoMemory)
     }
 
     fn claim_leaves(&mut self, alloc: Global, claim: Claim<'_>) -> Result<(), NoMemory>
         ensures ok { OnOk result (Leaves self.old.shares.items (claim_told claim.entry) self.new.shares.items) }
         ensures err { OnErr result (self.new.shares.items ≡ self.old.shares.items) }
     {
-        let resource = read_name(alloc, claim.resource)?;
-        let place = read_place(alloc, claim.place)?;
-        self.leave(&resource, claim.batch, &place);
+        let left = Kept::of(alloc, claim)?;
+        self.leave(&left);
         Ok(())
     }
 
@@ -207,17 +197,9 @@ impl Standing {
 fn compare_holders(kept: &Kept, other: &Kept) -> Ordering
     ensures { result ≡ holder_cmp (kept_claim kept.now) (kept_claim other.now) }
 {
-    kept.resource
-        .cmp(&other.resource)
-        .then(compare_acts(kept, other))
-}
-
-fn compare_acts(kept: &Kept, other: &Kept) -> Ordering
-    ensures { result ≡ act_cmp (kept_act kept.now) (kept_act other.now) }
-{
-    kept.batch
-        .cmp(&other.batch)
-        .then(kept.place.numbers().cmp(other.place.numbers()))
+    let acts = kept.batch.cmp(&other.batch);
+    let places = kept.place.numbers().cmp(other.place.numbers());
+    compare_waiters(kept, other).then(acts.then(places))
 }
 
 fn compare_waiters(kept: &Kept, other: &Kept) -> Ordering

@@ -13,22 +13,12 @@ use std::alloc::Global;
 
 /// Which batches there are, who holds and who waits, and which phases are live. It takes memory for the present state, and none for
 /// the past.
+#[derive(Drop)]
 pub struct Status {
     pub(crate) batches: Batches,
     pub(crate) holders: Standing,
     pub(crate) waiters: Standing,
     pub(crate) live: LivePhases,
-}
-
-impl Drop for Status {
-    fn drop(self) {
-        let Status {
-            batches: _,
-            holders: _,
-            waiters: _,
-            live: _,
-        } = self;
-    }
 }
 
 impl Status {

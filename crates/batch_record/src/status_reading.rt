@@ -1,16 +1,16 @@
 //! Reading the state at the end of a record.
-ghost use Rattle.std.specs.Prelude.{◌≡◌, [], ℕ, IfOk, IfErr, IfSome, MatchOption};
+ghost use Rattle.std.specs.Prelude.{◌≡◌, [], ℕ, IfOk, IfErr, IfSome};
 ghost use Rattle.batch_record.specs.Blocks.{Stage};
 ghost use Rattle.batch_record.specs.Kept.{Keeps};
-ghost use Rattle.batch_record.specs.StatusReading.{HasNoFeed, IsRefusedAt, LeadsTo};
-ghost use Rattle.batch_record.specs.Standings.{EndsLine, Ends, Feeds, HasRead};
+ghost use Rattle.batch_record.specs.StatusReading.{IsRefusedAt, LeadsTo};
+ghost use Rattle.batch_record.specs.Standings.{Ends, Feeds, HasRead};
 ghost use Rattle.batch_record.specs.declared.status_reading.StatusFault.TheVariants as faults;
 
-use crate::course::{LineFault, RecordCourse};
+use crate::course::RecordCourse;
+use crate::line_ends::line_feed;
 use crate::memory::NoMemory;
 use crate::status::Status;
 use crate::text::put;
-use memchr::memchr;
 use std::alloc::Global;
 use std::io::{ErrorKind, Read};
 use thiserror::Error;
@@ -110,20 +110,9 @@ impl Reading {
     {
         put(&mut self.line, end)?;
         self.count = self.count.saturating_add(1);
-        match self.course.apply_line(alloc, self.line.as_slice()) {
-            Ok(()) => {
-                self.line.clear();
-                Ok(())
-            }
-            Err(LineFault::NoRecord) => Err(StatusFault::NoRecord(self.count)),
-            Err(LineFault::Memory) => Err(StatusFault::Memory),
-        }
+        self.course
+            .apply_line(alloc, self.line.as_slice(), self.count)?;
+        self.line.clear();
+        Ok(())
     }
-}
-
-/// The position of the first line feed.
-fn line_feed(bytes: &[u8]) -> Option<usize>
-    ensures { MatchOption result (HasNoFeed bytes.now) (λ at. EndsLine at bytes.now) }
-{
-    memchr(b'\n', bytes)
 }

@@ -1,5 +1,5 @@
 //! The lines of the state that a record gives.
-ghost use Rattle.std.specs.Prelude.{◌≡◌, ◌++◌, ◌∷◌, [], IfOk, OnOk, codes, decimal, map};
+ghost use Rattle.std.specs.Prelude.{◌≡◌, ◌++◌, ◌∷◌, [], IfOk, OnOk, codes, map};
 ghost use Rattle.std.specs.List.Sorted.{IsStrictlySortedBy};
 ghost use Rattle.std.specs.Map.{keys_of};
 ghost use Rattle.std.specs.Ordering.{nat_cmp};
@@ -179,7 +179,8 @@ fn put_numbers(text: &mut Vec<u8>, numbers: &[u16]) -> Result<(), NoMemory>
 {
     let mut rest = numbers;
     while let [number, others @ ..] = rest {
-        put_number(text, *number)?;
+        let mut digits = Buffer::new();
+        put(text, digits.format(*number).as_bytes())?;
         if !others.is_empty() {
             put(text, b".")?;
         }
@@ -188,21 +189,11 @@ fn put_numbers(text: &mut Vec<u8>, numbers: &[u16]) -> Result<(), NoMemory>
     Ok(())
 }
 
-fn put_number(text: &mut Vec<u8>, number: u16) -> Result<(), NoMemory>
-    ensures { OnOk result (text.new.items ≡ text.old.items ++ decimal number) }
-{
-    let mut digits = Buffer::new();
-    put(text, digits.format(number).as_bytes())
-}
-
 /// Appends the bytes.
 pub(crate) fn put(text: &mut Vec<u8>, bytes: &[u8]) -> Result<(), NoMemory>
     ensures { OnOk result (text.new.items ≡ text.old.items ++ bytes.now) }
 {
-    match text.extend_from_slice(bytes) {
-        Ok(()) => Ok(()),
-        Err(_) => Err(NoMemory),
-    }
+    Ok(text.extend_from_slice(bytes)?)
 }
 
 fn state_text(state: &State) -> &[u8]

@@ -1,7 +1,8 @@
 //! The bars of a record over time.
 use crate::bars::{Bars, Ending, Share};
-use crate::remark::Remark;
+use crate::block::{Mark, Row, read_mark};
 use crate::told::{Claim, Passed, RecordedOut};
+use crate::word::{parted, plain_number};
 use crate::words::Words;
 use batch_matrix::Command;
 use batch_text::Name;
@@ -49,21 +50,29 @@ impl Timeline {
         }
     }
 
-    /// Applies a comment. A clock that goes back is passed over.
-    pub fn apply_remark(&mut self, alloc: Global, remark: Remark<'_>) -> Result<(), AllocError> {
-        match remark {
-            Remark::At(time) => {
-                self.now = self.now.max(time);
-                Ok(())
-            }
-            Remark::Recovered => {
+    /// Applies a comment, if it is one on times or recoveries. A clock that goes back is passed over.
+    pub fn apply_comment(&mut self, alloc: Global, line: &[u8]) -> Result<(), AllocError> {
+        if let Some(time) = time_of(line) {
+            self.now = self.now.max(time);
+            return Ok(());
+        }
+        match read_mark(line) {
+            Some(Mark::Begins) => {
                 self.block = Some(Vec::new(alloc));
                 Ok(())
             }
-            Remark::End => self.end_block(alloc),
-            Remark::Holds(claim) => self.list(alloc, claim, false),
-            Remark::Waits(claim) => self.list(alloc, claim, true),
-            Remark::Runs(unit) => self.note_unit(alloc, unit),
+            Some(Mark::Ends) => self.end_block(),
+            Some(Mark::Row(row)) => self.apply_row(alloc, row),
+            None => Ok(()),
+        }
+    }
+
+    fn apply_row(&mut self, alloc: Global, row: Row<'_>) -> Result<(), AllocError> {
+        match row {
+            Row::Holds(claim) => self.list(alloc, claim, false),
+            Row::Waits(claim) => self.list(alloc, claim, true),
+            Row::Runs { step, .. } => self.note_unit(alloc, step.unit),
+            Row::Batch { .. } => Ok(()),
         }
     }
 
@@ -78,7 +87,10 @@ impl Timeline {
             }
             RecordedOut::Released(claim) => self.end(alloc, claim, false),
             RecordedOut::Passed(passed) => self.hand_over(alloc, passed),
-            RecordedOut::Ordered { command, batch, .. } => self.order(alloc, command, batch),
+            RecordedOut::Ordered { command, batch, .. } => {
+                self.order(command, batch);
+                Ok(())
+            }
             RecordedOut::Reported(reported) => self.note_unit(alloc, reported.unit),
             RecordedOut::Sent(sent) => self.note_unit(alloc, sent.step.unit),
             RecordedOut::Started(started) => self.note_unit(alloc, started.step.unit),
@@ -88,11 +100,9 @@ impl Timeline {
     }
 
     /// A batch that is stopped or aborted waits for nothing more.
-    fn order(&mut self, alloc: Global, command: Command, batch: u64) -> Result<(), AllocError> {
+    fn order(&mut self, command: Command, batch: u64) {
         if matches!(command, Command::Stop | Command::Abort) {
-            self.bars.end(alloc, Ending::AsksOf(batch), self.now)
-        } else {
-            Ok(())
+            self.bars.end(Ending::AsksOf(batch), self.now);
         }
     }
 
@@ -115,7 +125,8 @@ impl Timeline {
 
     fn end(&mut self, alloc: Global, claim: Claim<'_>, waits: bool) -> Result<(), AllocError> {
         let share = self.share_of(alloc, claim, waits)?;
-        self.bars.end(alloc, Ending::Share(&share), self.now)
+        self.bars.end(Ending::Share(&share), self.now);
+        Ok(())
     }
 
     /// Adds a share that a block lists.
@@ -127,9 +138,9 @@ impl Timeline {
         Ok(())
     }
 
-    fn end_block(&mut self, alloc: Global) -> Result<(), AllocError> {
+    fn end_block(&mut self) -> Result<(), AllocError> {
         match self.block.take() {
-            Some(listed) => self.bars.replace(alloc, listed, self.now),
+            Some(listed) => self.bars.replace(listed, self.now),
             None => Ok(()),
         }
     }
@@ -147,11 +158,8 @@ impl Timeline {
     /// Marks the resources that take the roles of a batch as units. Each role is a name, `=` and the unit's name.
     fn note_roles(&mut self, alloc: Global, roles: Words<'_>) -> Result<(), AllocError> {
         for role in roles {
-            let mut parts = role.split(|byte| *byte == b'=');
-            parts.next();
-            if let Some(unit) = parts.next() {
-                self.note_unit(alloc, unit)?;
-            }
+            let (_, unit) = parted(role, b'=');
+            self.note_unit(alloc, unit)?;
         }
         Ok(())
     }
@@ -166,24 +174,26 @@ impl Timeline {
 
     /// The number of the resource with this name, which is added if no line has named it yet.
     fn number_of(&mut self, alloc: Global, name: &[u8]) -> Result<usize, AllocError> {
-        for (number, resource) in self.resources.iter().enumerate() {
-            if resource.name.text().as_bytes() == name {
-                return Ok(number);
-            }
+        let named = |resource: &Resource| resource.name.text().as_bytes() == name;
+        if let Some(number) = self.resources.iter().position(named) {
+            return Ok(number);
         }
         let number = self.resources.len();
         self.resources.push(Resource {
-            name: name_of(alloc, name)?,
+            // The line was read, so it is a name, and only memory can be refused.
+            name: Name::read(alloc, name).map_err(|_| AllocError)?,
             is_unit: false,
         })?;
         Ok(number)
     }
 }
 
-/// The name, of which it is known that it is one, so that only memory can be refused.
-fn name_of(alloc: Global, name: &[u8]) -> Result<Name, AllocError> {
-    match Name::read(alloc, name) {
-        Ok(name) => Ok(name),
-        Err(_) => Err(AllocError),
+/// The milliseconds of the clock in the line, if it is a comment on times.
+pub fn time_of(line: &[u8]) -> Option<u64> {
+    let mut words = Words::of(line);
+    if words.next()? != b"#".as_slice() || words.next()? != b"at".as_slice() {
+        return None;
     }
+    let time = plain_number(words.next()?)?;
+    words.next().is_none().then_some(time)
 }

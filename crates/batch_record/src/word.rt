@@ -1,32 +1,23 @@
 //! Single words of a record.
-ghost use Rattle.std.specs.Prelude.{◌≡◌, ◌==◌, true, false, length, nat_le, Some, None, MatchOption};
+ghost use Rattle.std.specs.Prelude.{◌≡◌, ◌==◌, ◌&&◌, true, false, length, nat_le, nat_lt, Some, None, MatchOption};
 ghost use Rattle.std.specs.List.{before_first, after_first, list_all};
 ghost use Rattle.batch_text.specs.PlaceText.{dotted_parts};
 ghost use Rattle.batch_text.specs.NumberText.{number_of};
-ghost use Rattle.batch_record.specs.RecordLine.{is_plain_number, is_plain_child, is_plain_place, is_plain_units, has_plain_front, need_of_word, state_of_word};
-ghost use Rattle.batch_wire.specs.EventLine.{is_number};
+ghost use Rattle.batch_record.specs.RecordLine.{is_plain_number, is_plain_child, is_plain_place, has_plain_front, need_of_word, state_of_word};
 ghost use Rattle.batch_record.specs.Reading.{need_told};
 
 use batch_matrix::State;
-use batch_text::{MAX_CHILD_NUMBER, MAX_PLACE_LEN, is_name};
+use batch_text::{MAX_CHILD_NUMBER, MAX_PLACE_LEN, is_name, read_number};
 
 /// The number that the word is, with no zero before another digit.
 pub fn plain_number(word: &[u8]) -> Option<u64>
     ensures { MatchOption result (is_plain_number word.now ≡ false)
         (λ number. (is_plain_number word.now ≡ true) × (number ≡ number_of word.now)) }
 {
-    if has_plain_front(word) {
-        any_number(word)
-    } else {
-        None
+    if !has_plain_front(word) {
+        return None;
     }
-}
-
-fn any_number(word: &[u8]) -> Option<u64>
-    ensures { MatchOption result (is_number word.now ≡ false)
-        (λ number. (is_number word.now ≡ true) × (number ≡ number_of word.now)) }
-{
-    match batch_text::read_number(word, u64::MAX) {
+    match read_number(word, u64::MAX) {
         Ok(number) => Some(number),
         Err(_) => None,
     }
@@ -35,10 +26,7 @@ fn any_number(word: &[u8]) -> Option<u64>
 fn has_plain_front(word: &[u8]) -> bool
     ensures { result ≡ has_plain_front word.now }
 {
-    match word {
-        [b'0', _, ..] => false,
-        _ => true,
-    }
+    !matches!(word, [b'0', _, ..])
 }
 
 /// Whether the word is a place, each number with no zero before another digit.
@@ -64,10 +52,7 @@ fn has_few_parts(word: &[u8]) -> bool
 fn is_plain_child(part: &[u8]) -> bool
     ensures { result ≡ is_plain_child part.now }
 {
-    match plain_number(part) {
-        Some(number) => number <= u64::from(MAX_CHILD_NUMBER),
-        None => false,
-    }
+    plain_number(part).is_some_and(|number| number <= u64::from(MAX_CHILD_NUMBER))
 }
 
 /// The need that the word names: a resource, and how many units of its capacity.
@@ -79,7 +64,7 @@ pub fn read_need(word: &[u8]) -> Option<(&[u8], u32)>
         return Some((word, 1));
     }
     let (resource, units) = parted(word, b'*');
-    let units = read_units(units)?;
+    let units = read_units(units, 1)?;
     if is_name(resource) {
         Some((resource, units))
     } else {
@@ -87,13 +72,13 @@ pub fn read_need(word: &[u8]) -> Option<(&[u8], u32)>
     }
 }
 
-/// The number of units that the word is: 2 at least, and no more than 32 bits count.
-fn read_units(word: &[u8]) -> Option<u32>
-    ensures { MatchOption result (is_plain_units word.now ≡ false)
-        (λ units. (is_plain_units word.now ≡ true) × (units ≡ number_of word.now)) }
+/// The number of units that the word is: above this number, and no more than 32 bits count.
+pub fn read_units(word: &[u8], above: u64) -> Option<u32>
+    ensures { MatchOption result ((is_plain_number word.now && (nat_lt above (number_of word.now) && nat_le (number_of word.now) 4294967295)) ≡ false)
+        (λ units. ((is_plain_number word.now && (nat_lt above (number_of word.now) && nat_le (number_of word.now) 4294967295)) ≡ true) × (units ≡ number_of word.now)) }
 {
     let number = plain_number(word)?;
-    if number > 1 && number <= 4_294_967_295 {
+    if number > above && number <= 4_294_967_295 {
         Some(number as u32)
     } else {
         None

@@ -1,0 +1,13 @@
+//! The ends of lines.
+ghost use Rattle.std.specs.Prelude.{MatchOption};
+ghost use Rattle.batch_record.specs.StatusReading.{HasNoFeed};
+ghost use Rattle.batch_record.specs.Taking.{EndsLine};
+
+use memchr::memchr;
+
+/// The position of the first line feed.
+pub fn line_feed(bytes: &[u8]) -> Option<usize>
+    ensures { MatchOption result (HasNoFeed bytes.now) (λ at. EndsLine at bytes.now) }
+{
+    memchr(b'\n', bytes)
+}
