@@ -1,11 +1,12 @@
 //! The faults of a document's table.
-use crate::declared::text_at;
 use crate::entry::Entry;
-use crate::fits::{Fit, form_said, given_said, value_fit};
+use crate::fits::{form_said, given_said};
 use crate::kinds::{kind_said, kinds_beside, word_of};
 use crate::needs::{need_out_of_limit, unreadable_need};
-use batch_reader::{EntryFault, Key, Spot, TableKind, is_chart_word, keys_of, may_stand};
-use batch_recipe::{MAX_NEED_UNITS, MAX_NODES};
+use batch_reader::{
+    EntryFault, Key, MAX_CHART_LEN, Spot, TableKind, ValueForm, is_chart_word, keys_of,
+};
+use batch_recipe::{MAX_NEED_UNITS, MAX_NEEDS, MAX_NODES, MAX_VALUE};
 use batch_wording::meant_said;
 use std::alloc::{AllocError, Global};
 use toml::{Table, Value};
@@ -68,7 +69,6 @@ pub(crate) fn wrong_at<'a>(
     spot: Spot,
     fault: EntryFault,
 ) -> Result<Wrong<'a>, AllocError> {
-    let keys = keys_of(spot.kind);
     let Some(table) = entry_at(document, spot) else {
         return no_table(alloc, document, spot.kind);
     };
@@ -80,12 +80,14 @@ pub(crate) fn wrong_at<'a>(
         table,
     };
     match fault {
-        EntryFault::MissingKey => missing(alloc, keys, table, spot.kind),
-        EntryFault::WrongKind => wrong_kind(alloc, keys, document, table, spot.kind),
-        EntryFault::UnknownKey => unknown(alloc, keys, table, spot.kind),
+        EntryFault::MissingKey(key) => missing(alloc, key),
+        EntryFault::WrongKind(Some(key)) => wrong_kind(entry, key),
+        EntryFault::WrongKind(None) => misheaded(alloc, spot.kind),
+        EntryFault::UnknownKey => unknown(alloc, keys_of(spot.kind), table, spot.kind),
         EntryFault::Undeclared => entry.undeclared(),
         EntryFault::Duplicate => entry.duplicate(),
-        EntryFault::OutOfLimit => out_of_limit(entry, keys),
+        EntryFault::OutOfLimit(Some(key)) => out_of_limit(entry, key),
+        EntryFault::OutOfLimit(None) => Wrong::with("", too_many_said(alloc, spot)),
         EntryFault::Chart(byte) => Wrong::with("chart", entry.no_chart_said(byte)),
     }
 }
@@ -107,23 +109,14 @@ fn no_table(
     }
 }
 
-fn missing(
-    alloc: Global,
-    keys: &[Key],
-    table: &Table,
-    kind: TableKind,
-) -> Result<Wrong<'static>, AllocError> {
-    for key in keys {
-        if key.1 && key.0 != "unit" && may_stand(kind, key.0, table) && !table.contains_key(key.0) {
-            return Wrong::with("", format!(in alloc; "the key `{}` is missing", key.0));
+fn missing(alloc: Global, key: Option<&str>) -> Result<Wrong<'static>, AllocError> {
+    match key {
+        // A unit procedure and a desk need one of two keys.
+        Some("unit") => {
+            Wrong::from_str(alloc, "", "one of the keys `unit` and `role` is missing")
         }
-    }
-    // A unit procedure and a desk need one of two keys.
-    match kind {
-        TableKind::Desk => {
-            Wrong::from_str(alloc, "", "one of the keys `input` and `output` is missing")
-        }
-        _ => Wrong::from_str(alloc, "", "one of the keys `unit` and `role` is missing"),
+        Some(key) => Wrong::with("", format!(in alloc; "the key `{key}` is missing")),
+        None => Wrong::from_str(alloc, "", "one of the keys `input` and `output` is missing"),
     }
 }
 
@@ -209,126 +202,97 @@ fn is_known(keys: &[Key], name: &str) -> bool {
     false
 }
 
-fn wrong_kind(
-    alloc: Global,
-    keys: &[Key],
-    document: &Table,
-    table: &Table,
-    kind: TableKind,
-) -> Result<Wrong<'static>, AllocError> {
-    if let Some(said) = misheaded(alloc, document, kind)? {
-        return Wrong::with("", Ok(said));
-    }
-    if let Some(key) = first_unfit(keys, table, Fit::WrongKind) {
-        return unfit(alloc, key, "has to be", table);
-    }
-    if let Some(need) = unreadable_need(table) {
-        return Wrong::with(
-            "needs",
-            format!(in alloc;
-                "`{need}` is no need: a need is the name of a resource, with a star and a number behind it where it is of several units, as `STEAM` or `STEAM*2`, and no spaces"
+fn wrong_kind(entry: Entry<'_>, key: &'static str) -> Result<Wrong<'static>, AllocError> {
+    let Entry { alloc, table, .. } = entry;
+    match (key, table.get(key)) {
+        ("needs", Some(Value::Array(needs))) => match unreadable_need(needs) {
+            Some(need) => Wrong::with(
+                key,
+                format!(in alloc;
+                    "`{need}` is no need: a need is the name of a resource, with a star and a number behind it where it is of several units, as `STEAM` or `STEAM*2`, and no spaces"
+                ),
             ),
-        );
-    }
-    match text_at(table, "name") {
-        Some(name) if is_chart_word(name.as_bytes()) => Wrong::with(
-            "name",
+            None => unfit(entry, key, "has to be"),
+        },
+        (_, Some(Value::String(name))) if is_chart_word(name.as_bytes()) => Wrong::with(
+            key,
             format!(in alloc; "the name `{name}` is a word of charts, which names nothing else"),
         ),
-        _ => Wrong::from_str(alloc, "", "a value is of another kind than its key has"),
+        _ => unfit(entry, key, "has to be"),
     }
 }
 
 /// Says that the header of a table of this kind has other brackets: a procedure's single ones, any other's double ones.
-fn misheaded(
-    alloc: Global,
-    document: &Table,
-    kind: TableKind,
-) -> Result<Option<String>, AllocError> {
-    let Some(word) = word_of(kind) else {
-        return Ok(None);
-    };
-    let said = match (kind, document.get(word)) {
-        (TableKind::Procedure, Some(Value::Array(_))) => {
-            String::from_str(
-                alloc,
-                "a recipe has one procedure, with the header [procedure]",
-            )
-        }
-        (TableKind::Procedure, _) => return Ok(None),
-        (_, Some(Value::Table(_))) => format!(in alloc;
-            "the header is [[{word}]], since a document may have several of these tables"
+fn misheaded(alloc: Global, kind: TableKind) -> Result<Wrong<'static>, AllocError> {
+    match kind {
+        TableKind::Procedure => Wrong::from_str(
+            alloc,
+            "",
+            "a recipe has one procedure, with the header [procedure]",
         ),
-        _ => return Ok(None),
-    };
-    Ok(Some(said?))
+        _ => Wrong::with(
+            "",
+            format!(in alloc;
+                "the header is [[{kind}]], since a document may have several of these tables"
+            ),
+        ),
+    }
 }
 
 /// Says which form the value of the key is to have.
-fn unfit(
-    alloc: Global,
-    key: &Key,
-    front: &str,
-    table: &Table,
-) -> Result<Wrong<'static>, AllocError> {
-    let form = form_said(alloc, key.2)?;
-    let given = match table.get(key.0) {
-        Some(value) => given_said(alloc, key.2, value)?,
+fn unfit(entry: Entry<'_>, key: &'static str, front: &str) -> Result<Wrong<'static>, AllocError> {
+    let Entry {
+        alloc,
+        table,
+        spot,
+        ..
+    } = entry;
+    let known = keys_of(spot.kind).iter().find(|known| known.0 == key);
+    let form = known.map_or(ValueForm::Tables, |known| known.2);
+    let wanted = form_said(alloc, form)?;
+    let given = match table.get(key) {
+        Some(value) => given_said(alloc, form, value)?,
         None => String::new(alloc),
     };
-    Wrong::with(
-        key.0,
-        format!(in alloc; "`{}` {front} {form}{given}", key.0),
-    )
+    Wrong::with(key, format!(in alloc; "`{key}` {front} {wanted}{given}"))
 }
 
-fn out_of_limit(entry: Entry<'_>, keys: &[Key]) -> Result<Wrong<'static>, AllocError> {
+fn out_of_limit(entry: Entry<'_>, key: &'static str) -> Result<Wrong<'static>, AllocError> {
+    match part_said(entry, key)? {
+        Some(said) => Wrong::with(key, Ok(said)),
+        None => unfit(entry, key, "is out of its limits: it has to be"),
+    }
+}
+
+/// Says which need or which number of the chart is out of its limits, or that `min` is above `max`. None if the whole value is out of
+/// its limits.
+fn part_said(entry: Entry<'_>, key: &str) -> Result<Option<String>, AllocError> {
     let Entry { alloc, table, .. } = entry;
-    if let Some(key) = first_unfit(keys, table, Fit::OutOfLimit) {
-        return unfit(alloc, key, "is out of its limits: it has to be", table);
-    }
-    if let Some(need) = need_out_of_limit(table) {
-        return Wrong::with(
-            "needs",
-            format!(in alloc;
-                "`{need}` is out of its limits: a need is of 1 to {MAX_NEED_UNITS} units"
-            ),
-        );
-    }
-    let least = table.get("min").and_then(Value::as_integer);
-    let greatest = table.get("max").and_then(Value::as_integer);
-    match (least, greatest) {
-        (Some(least), Some(greatest)) if least > greatest => {
-            Wrong::from_str(alloc, "min", "`min` is above `max`")
+    match (key, table.get(key)) {
+        ("needs", Some(Value::Array(needs))) if needs.len() <= MAX_NEEDS => {
+            match need_out_of_limit(needs) {
+                Some(need) => Ok(Some(format!(in alloc;
+                    "`{need}` is out of its limits: a need is of 1 to {MAX_NEED_UNITS} units"
+                )?)),
+                None => Ok(None),
+            }
         }
-        _ => chart_out_of_limit(entry),
+        ("min", Some(Value::Integer(least))) if 0 <= *least && *least <= MAX_VALUE as i64 => {
+            Ok(Some(String::from_str(alloc, "`min` is above `max`")?))
+        }
+        ("chart", Some(Value::String(chart))) if chart.len() <= MAX_CHART_LEN => {
+            entry.number_said()
+        }
+        _ => Ok(None),
     }
 }
 
-/// Says that a number of the table's chart is out of its limits, or that the acts are too many, or the tables. In the last case the
-/// spot is that of the first table too many.
-fn chart_out_of_limit(entry: Entry<'_>) -> Result<Wrong<'static>, AllocError> {
-    let Entry { alloc, spot, .. } = entry;
-    if let Some(said) = entry.number_said()? {
-        return Wrong::with("chart", Ok(said));
-    }
-    let said = match spot.kind {
+/// Says that the nodes of the procedure are too many, or the tables. In the second case the spot is that of the first table too many.
+fn too_many_said(alloc: Global, spot: Spot) -> Result<String, AllocError> {
+    match spot.kind {
         TableKind::Procedure => format!(in alloc;
             "the acts come to more than {MAX_NODES} nodes: each label stands for its act, with the chart of that"
         ),
         _ => format!(in alloc; "a document has at most {} of these tables", spot.entry),
-    };
-    Wrong::with("", said)
-}
-
-/// The first of the keys whose value has this fit.
-fn first_unfit<'a>(keys: &'a [Key], table: &Table, wanted: Fit) -> Option<&'a Key> {
-    for key in keys {
-        if let Some(value) = table.get(key.0) {
-            if value_fit(key.2, value) == wanted {
-                return Some(key);
-            }
-        }
     }
-    None
 }

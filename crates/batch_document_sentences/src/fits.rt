@@ -1,26 +1,8 @@
-//! Whether values have the forms of their keys.
+//! The forms of values, in words.
 use batch_reader::{MAX_CHART_LEN, ValueForm};
 use batch_text::{MAX_NAME_LEN, is_name};
 use std::alloc::{AllocError, Global};
 use toml::Value;
-
-/// How a value suits its key.
-#[derive(Clone, Copy)]
-pub(crate) enum Fit {
-    Good,
-    WrongKind,
-    OutOfLimit,
-}
-
-impl Fit {
-    fn within(is_within: bool) -> Fit {
-        if is_within {
-            Fit::Good
-        } else {
-            Fit::OutOfLimit
-        }
-    }
-}
 
 /// The form without the demands that have sentences of their own: a chart is a text, and any name a name.
 fn plain(form: ValueForm) -> ValueForm {
@@ -29,71 +11,6 @@ fn plain(form: ValueForm) -> ValueForm {
         ValueForm::Chart | ValueForm::ChartWithoutPar => ValueForm::Text(MAX_CHART_LEN),
         ValueForm::Least(most) => ValueForm::Number(0, most),
         other => other,
-    }
-}
-
-pub(crate) fn value_fit(form: ValueForm, value: &Value) -> Fit {
-    match plain(form) {
-        ValueForm::Name => name_fit(value),
-        ValueForm::Text(most) => text_fit(value, 0, most),
-        ValueForm::Path(most) => text_fit(value, 1, most),
-        ValueForm::Number(least, most) => number_fit(value, least, most),
-        ValueForm::Truth => truth_fit(value),
-        ValueForm::Names(least, most) => names_fit(value, least, most),
-        ValueForm::Needs(most) => needs_fit(value, most),
-        _ => Fit::Good,
-    }
-}
-
-fn text_fit(value: &Value, least: usize, most: usize) -> Fit {
-    match value.as_str() {
-        Some(text) => Fit::within(least <= text.len() && text.len() <= most),
-        None => Fit::WrongKind,
-    }
-}
-
-fn number_fit(value: &Value, least: u64, most: u64) -> Fit {
-    match value.as_integer() {
-        Some(number) => Fit::within(0 <= number && least <= number as u64 && number as u64 <= most),
-        None => Fit::WrongKind,
-    }
-}
-
-fn truth_fit(value: &Value) -> Fit {
-    match value.as_bool() {
-        Some(_) => Fit::Good,
-        None => Fit::WrongKind,
-    }
-}
-
-fn names_fit(value: &Value, least: usize, most: usize) -> Fit {
-    let Some(items) = value.as_array() else {
-        return Fit::WrongKind;
-    };
-    for item in items {
-        if name_fit(item) == Fit::WrongKind {
-            return Fit::WrongKind;
-        }
-    }
-    Fit::within(least <= items.len() && items.len() <= most)
-}
-
-fn needs_fit(value: &Value, most: usize) -> Fit {
-    let Some(items) = value.as_array() else {
-        return Fit::WrongKind;
-    };
-    for item in items {
-        if item.as_str().is_none() {
-            return Fit::WrongKind;
-        }
-    }
-    Fit::within(items.len() <= most)
-}
-
-fn name_fit(value: &Value) -> Fit {
-    match value.as_str() {
-        Some(text) if is_name(text.as_bytes()) => Fit::Good,
-        _ => Fit::WrongKind,
     }
 }
 

@@ -1,24 +1,22 @@
 //! The faults in the needs of a table.
-use crate::declared::list_at;
 use batch_recipe::MAX_NEED_UNITS;
 use batch_text::is_name;
-use toml::Table;
+use toml::Value;
 
-/// The first text of the table's needs that is no need, if any.
-pub(crate) fn unreadable_need(table: &Table) -> Option<&str> {
-    for need in list_at(table, "needs") {
-        if let Some(text) = need.as_str() {
-            if !is_need(text) {
-                return Some(text);
-            }
+/// The first of these values that is no need, if it is a text.
+pub(crate) fn unreadable_need(needs: &[Value]) -> Option<&str> {
+    for need in needs {
+        match need.as_str() {
+            Some(text) if is_need(text) => {}
+            other => return other,
         }
     }
     None
 }
 
-/// The first of the table's needs whose units are out of their limits.
-pub(crate) fn need_out_of_limit(table: &Table) -> Option<&str> {
-    for need in list_at(table, "needs") {
+/// The first of the needs whose units are out of their limits.
+pub(crate) fn need_out_of_limit(needs: &[Value]) -> Option<&str> {
+    for need in needs {
         if let Some(text) = need.as_str() {
             if is_need(text) && !has_few_units(text) {
                 return Some(text);

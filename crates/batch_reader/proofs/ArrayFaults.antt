@@ -6,7 +6,7 @@ use Rattle.batch_reader.{proofs.Items.get_item-view, specs.Faults.IsAmong, specs
 -- the item that a loop has come to is no table
 pub array_no_table : (IsRight : Data → Type 0) (IsFault : Members → EntryFault → Type 0) (list : Option Items) (vs : List Value) (i : ℕ) (d : Value)
     → list ≡ Some (items_view vs) → i < length vs → None ≡ as_table (view (get_or vs i d))
-    → ((n : ℕ) (e : Data) → n < i → get_item n (items_view vs) ≡ Some e → IsRight e) → IsArrayFault IsRight IsFault list i WrongKind
+    → ((n : ℕ) (e : Data) → n < i → get_item n (items_view vs) ≡ Some e → IsRight e) → IsArrayFault IsRight IsFault list i (WrongKind None)
 array_no_table IsRight IsFault list vs i d found below none before =
     rw found (record { here = view (get_or vs i d); found = get_item-view vs i d below; fault = rw (← none) refl; before = before })
 

@@ -15,42 +15,42 @@ none_first w l (inr p) = l p.1
 -- ---- a key
 
 pub name_refused : (key : List ℕ) (ms : Members) (wrong : EntryFault) (name : List ℕ) → HasName key ms name → IsKeyFault (needed key form.Name) ms wrong → ⊥
-name_refused key ms MissingKey name has h = HasName_missing key ms name h.1 has
-name_refused key ms WrongKind name has h = h.fits name (record { text = rw h.found at has.text; valid = has.valid })
-name_refused key ms OutOfLimit name has h = h.fits
+name_refused key ms (MissingKey named) name has h = HasName_missing key ms name h.2 has
+name_refused key ms (WrongKind named) name has h = h.1.fits name (record { text = rw h.1.found at has.text; valid = has.valid })
+name_refused key ms (OutOfLimit named) name has h = h.1.fits
 name_refused key ms (Chart offset) name has h = h.fits
 name_refused key ms UnknownKey name has h = h
 name_refused key ms Undeclared name has h = h
 name_refused key ms Duplicate name has h = h
 
 pub optional_name_refused : (key : List ℕ) (ms : Members) (wrong : EntryFault) (name : Option (List ℕ)) → MayHaveName key ms name → IsKeyFault (optional key form.Name) ms wrong → ⊥
-optional_name_refused key ms MissingKey name has h = false≢true h.0
-optional_name_refused key ms WrongKind None has h = let none = rw has at h.found in cc none
-optional_name_refused key ms WrongKind (Some name) has h = h.fits name (record { text = rw h.found at has.text; valid = has.valid })
-optional_name_refused key ms OutOfLimit name has h = h.fits
+optional_name_refused key ms (MissingKey named) name has h = false≢true h.1
+optional_name_refused key ms (WrongKind named) None has h = let none = rw has at h.1.found in cc none
+optional_name_refused key ms (WrongKind named) (Some name) has h = h.1.fits name (record { text = rw h.1.found at has.text; valid = has.valid })
+optional_name_refused key ms (OutOfLimit named) name has h = h.1.fits
 optional_name_refused key ms (Chart offset) name has h = h.fits
 optional_name_refused key ms UnknownKey name has h = h
 optional_name_refused key ms Undeclared name has h = h
 optional_name_refused key ms Duplicate name has h = h
 
 pub path_refused : (key : List ℕ) (ms : Members) (wrong : EntryFault) (path : Option (List ℕ)) → MayHavePath key ms path → IsKeyFault (path_key key) ms wrong → ⊥
-path_refused key ms WrongKind None has h = let none = rw has at h.found in cc none
-path_refused key ms WrongKind (Some path) has h = let found = rw h.found at has.text.found in cc (found, h.fits)
-path_refused key ms OutOfLimit None has h = let none = rw has at h.found in cc none
-path_refused key ms OutOfLimit (Some path) has h =
-    let found = rw h.found at has.text.found in
-    let same : h.fits.text ≡ path = cc (found, h.fits.found) in
-    h.fits.fits (rw same has.some) (rw same has.text.short)
-path_refused key ms MissingKey path has h = false≢true h.0
+path_refused key ms (WrongKind named) None has h = let none = rw has at h.1.found in cc none
+path_refused key ms (WrongKind named) (Some path) has h = let found = rw h.1.found at has.text.found in cc (found, h.1.fits)
+path_refused key ms (OutOfLimit named) None has h = let none = rw has at h.1.found in cc none
+path_refused key ms (OutOfLimit named) (Some path) has h =
+    let found = rw h.1.found at has.text.found in
+    let same : h.1.fits.text ≡ path = cc (found, h.1.fits.found) in
+    h.1.fits.fits (rw same has.some) (rw same has.text.short)
+path_refused key ms (MissingKey named) path has h = false≢true h.1
 path_refused key ms (Chart offset) path has h = h.fits
 path_refused key ms UnknownKey path has h = h
 path_refused key ms Undeclared path has h = h
 path_refused key ms Duplicate path has h = h
 
 pub truth_refused : (key : List ℕ) (ms : Members) (wrong : EntryFault) (truth : Bool) → IsTruth key ms truth → IsKeyFault (optional key form.Truth) ms wrong → ⊥
-truth_refused key ms MissingKey truth has h = false≢true h.0
-truth_refused key ms WrongKind truth has h = let found = rw h.found at has in cc (found, h.fits)
-truth_refused key ms OutOfLimit truth has h = h.fits
+truth_refused key ms (MissingKey named) truth has h = false≢true h.1
+truth_refused key ms (WrongKind named) truth has h = let found = rw h.1.found at has in cc (found, h.1.fits)
+truth_refused key ms (OutOfLimit named) truth has h = h.1.fits
 truth_refused key ms (Chart offset) truth has h = h.fits
 truth_refused key ms UnknownKey truth has h = h
 truth_refused key ms Undeclared truth has h = h
@@ -58,12 +58,12 @@ truth_refused key ms Duplicate truth has h = h
 
 pub number_refused : (key : List ℕ) (ms : Members) (low high : ℕ) (wrong : EntryFault) (number : ℕ) → HasNumber key ms low high number
     → IsKeyFault (optional key (form.Number low high)) ms wrong → ⊥
-number_refused key ms low high MissingKey number has h = false≢true h.0
-number_refused key ms low high WrongKind number has h = let found = rw h.found at has.integer in cc (found, h.fits)
-number_refused key ms low high OutOfLimit number has h =
-    let found = rw h.found at has.integer in
-    let same : h.fits.integer ≡ pos number = cc (found, h.fits.found) in
-    h.fits.outside number same has.at_least has.at_most
+number_refused key ms low high (MissingKey named) number has h = false≢true h.1
+number_refused key ms low high (WrongKind named) number has h = let found = rw h.1.found at has.integer in cc (found, h.1.fits)
+number_refused key ms low high (OutOfLimit named) number has h =
+    let found = rw h.1.found at has.integer in
+    let same : h.1.fits.integer ≡ pos number = cc (found, h.1.fits.found) in
+    h.1.fits.outside number same has.at_least has.at_most
 number_refused key ms low high (Chart offset) number has h = h.fits
 number_refused key ms low high UnknownKey number has h = h
 number_refused key ms low high Undeclared number has h = h
@@ -71,9 +71,9 @@ number_refused key ms low high Duplicate number has h = h
 
 -- a key that is missing has nothing wrong
 pub missing_refused : (key : List ℕ) (ms : Members) (low high : ℕ) (wrong : EntryFault) → get_member key ms ≡ None → IsKeyFault (optional key (form.Number low high)) ms wrong → ⊥
-missing_refused key ms low high MissingKey missing h = false≢true h.0
-missing_refused key ms low high WrongKind missing h = let none = rw missing at h.found in cc none
-missing_refused key ms low high OutOfLimit missing h = let none = rw missing at h.found in cc none
+missing_refused key ms low high (MissingKey named) missing h = false≢true h.1
+missing_refused key ms low high (WrongKind named) missing h = let none = rw missing at h.1.found in cc none
+missing_refused key ms low high (OutOfLimit named) missing h = let none = rw missing at h.1.found in cc none
 missing_refused key ms low high (Chart offset) missing h = h.fits
 missing_refused key ms low high UnknownKey missing h = h
 missing_refused key ms low high Undeclared missing h = h

@@ -73,31 +73,31 @@ undeclared_told inputs parameters outputs acts values (Entry here wrong) same is
 
 -- a fault among names is a fault of a recipe's parts
 pub naming_fault : (p : Parts) (kind : TableKind) (entry : ℕ) (wrong : EntryFault) → IsNamingFault p.inputs p.parameters p.outputs p.acts kind entry wrong → IsPartFault p kind entry wrong
-naming_fault p kind entry MissingKey h = h
-naming_fault p kind entry WrongKind h = h
+naming_fault p kind entry (MissingKey named) h = h
+naming_fault p kind entry (WrongKind named) h = h
 naming_fault p kind entry UnknownKey h = h
 naming_fault p kind entry Undeclared h = inl h
 naming_fault p kind entry Duplicate (inl h) = inl h
 naming_fault p kind entry Duplicate (inr h) = inr (inr (inl h))
-naming_fault p kind entry OutOfLimit h = absurd h
+naming_fault p kind entry (OutOfLimit named) h = absurd h
 naming_fault p kind entry (Chart offset) h = h
 
 pub role_fault : (p : Parts) (kind : TableKind) (entry : ℕ) (wrong : EntryFault) → IsRoleFault p.roles p.acts kind entry wrong → IsPartFault p kind entry wrong
-role_fault p kind entry MissingKey h = h
-role_fault p kind entry WrongKind h = h
+role_fault p kind entry (MissingKey named) h = h
+role_fault p kind entry (WrongKind named) h = h
 role_fault p kind entry UnknownKey h = h
 role_fault p kind entry Undeclared h = inr (inl h)
 role_fault p kind entry Duplicate h = inr (inl h)
-role_fault p kind entry OutOfLimit h = absurd h
+role_fault p kind entry (OutOfLimit named) h = absurd h
 role_fault p kind entry (Chart offset) h = h
 
 pub report_fault : (p : Parts) (kind : TableKind) (entry : ℕ) (wrong : EntryFault) → IsReportFault p.outputs p.acts kind entry wrong → IsPartFault p kind entry wrong
-report_fault p kind entry MissingKey h = h
-report_fault p kind entry WrongKind h = h
+report_fault p kind entry (MissingKey named) h = h
+report_fault p kind entry (WrongKind named) h = h
 report_fault p kind entry UnknownKey h = h
 report_fault p kind entry Undeclared h = inr (inr (inl h))
 report_fault p kind entry Duplicate h = inr (inr (inr (inl h)))
-report_fault p kind entry OutOfLimit h = absurd h
+report_fault p kind entry (OutOfLimit named) h = absurd h
 report_fault p kind entry (Chart offset) h = h
 
 -- the names that acts reserve have no other fault
@@ -121,16 +121,16 @@ no_reserve_fault acts table_kind.Desk entry wrong none h = h
 pub reserve_fault : (p : Parts) (kind : TableKind) (entry : ℕ) (wrong : EntryFault) → HasReserveFault p.acts kind entry wrong → IsPartFault p kind entry wrong
 reserve_fault p kind entry Undeclared h = inr (inr (inr h))
 reserve_fault p kind entry Duplicate h = inr (inr (inr (inr h)))
-reserve_fault p kind entry MissingKey h = no_reserve_fault p.acts kind entry MissingKey (λ names table f. f) h
-reserve_fault p kind entry WrongKind h = no_reserve_fault p.acts kind entry WrongKind (λ names table f. f) h
+reserve_fault p kind entry (MissingKey named) h = no_reserve_fault p.acts kind entry (MissingKey named) (λ names table f. f) h
+reserve_fault p kind entry (WrongKind named) h = no_reserve_fault p.acts kind entry (WrongKind named) (λ names table f. f) h
 reserve_fault p kind entry UnknownKey h = no_reserve_fault p.acts kind entry UnknownKey (λ names table f. f) h
-reserve_fault p kind entry OutOfLimit h = absurd (no_reserve_fault p.acts kind entry OutOfLimit (λ names table f. f) h)
+reserve_fault p kind entry (OutOfLimit named) h = absurd (no_reserve_fault p.acts kind entry (OutOfLimit named) (λ names table f. f) h)
 reserve_fault p kind entry (Chart offset) h = no_reserve_fault p.acts kind entry (Chart offset) (λ names table f. f) h
 
 -- the expanded tree is too large
 pub large_told : (p : Parts) (fault : OutlineFault) → (IsErrOf {T = Recipe} (Err fault) outline.TooMany → MAX_NODES < length (procedure_nodes p.acts))
     → Tells (λ spot. IsPartFault p spot.kind spot.entry) (outline_fault fault)
-large_told p outline.TooMany many = inr (refl, many refl)
+large_told p outline.TooMany many = (refl, inr (refl, many refl))
 large_told p outline.Memory many = tt
 
 pub large_refused : (acts : Acts) (fault : OutlineFault) → (IsErrOf {T = Recipe} (Err fault) outline.TooMany → MAX_NODES < length (procedure_nodes acts)) → (outline_fault fault ≡ Memory → ⊥)

@@ -1,6 +1,6 @@
 -- An entry of a table says one thing at most.
 use Rattle.std.proofs.Common.{◌≡◌, ℕ, ◌<◌, ◌≤◌, true, List, [], ◌∷◌, length, Option, Some, None, refl, ap₂, arith, nat_le, position}
-use Rattle.std.{proofs.lemmas.List.map-id, proofs.lemmas.Bool.Decides.nat_tests, specs.Option.option_and_then}
+use Rattle.std.{proofs.lemmas.List.map-id, proofs.lemmas.Bool.Decides.nat_tests, specs.Borrow.Bor, specs.Option.option_and_then}
 use Rattle.toml.specs.{Data.Data, Data.Items, Data.Members, Data.get_member, Data.as_str, Data.as_table, View.items_view, declared.value.Value.Value}
 use Rattle.batch_recipe.specs.{Diagram.Diagram, declared.need.Need.Need, Needs.have_units, declared.need.TheConstants.MAX_NEED_UNITS}
 use Rattle.batch_reader.{proofs.ChartReader.at_most_one, specs.ChartGrammar.IsChart, proofs.Items.AllItems_same, specs.Entries.AllItems, specs.Entries.IsNameItem, specs.Entries.HasLabel, specs.Entries.HasName, specs.Entries.HasNameOr, specs.Entries.HasChart, specs.Entries.HasFew, specs.Entries.HasFewNames, specs.Entries.HasFewNeeds, specs.Entries.IsNeedItem, specs.Entries.HasTable, specs.Entries.items_at, specs.Faults.few_names_fault, specs.TableFaults.count_items, specs.declared.fault.EntryFault.TheVariants.OutOfLimit, specs.declared.fault.EntryFault.TheVariants.WrongKind, specs.NeedText.IsNeedCut, specs.NeedText.is_star}
@@ -32,11 +32,11 @@ count_items-view [] = refl
 count_items-view (v ∷ vs) = omega (arith, count_items-view vs)
 
 -- the fault of a list of names, by its length
-pub few_names_fault-long : (most : ℕ) (found : Option Items) (vs : List Value) → found ≡ Some (items_view vs) → most < length vs → OutOfLimit ≡ few_names_fault most found
-few_names_fault-long most found vs is_list many = grind (arith, count_items-view vs, nat_tests)
+pub few_names_fault-long : (key : Bor (List ℕ)) (most : ℕ) (found : Option Items) (vs : List Value) → found ≡ Some (items_view vs) → most < length vs → OutOfLimit (Some key) ≡ few_names_fault key most found
+few_names_fault-long key most found vs is_list many = grind (arith, count_items-view vs, nat_tests)
 
-pub few_names_fault-short : (most : ℕ) (found : Option Items) (vs : List Value) → found ≡ Some (items_view vs) → length vs ≤ most → few_names_fault most found ≡ WrongKind
-few_names_fault-short most found vs is_list few = grind (arith, count_items-view vs, nat_tests)
+pub few_names_fault-short : (key : Bor (List ℕ)) (most : ℕ) (found : Option Items) (vs : List Value) → found ≡ Some (items_view vs) → length vs ≤ most → few_names_fault key most found ≡ WrongKind (Some key)
+few_names_fault-short key most found vs is_list few = grind (arith, count_items-view vs, nat_tests)
 
 -- where a text is one of no chart, a table with it has none
 pub chart_refused : (key : List ℕ) (ms : Members) (text : List ℕ) → option_and_then as_str (get_member key ms) ≡ Some text

@@ -1,5 +1,5 @@
 -- trusted: the fault for which a document of desks is refused: the first one, in the order in which they are looked for.
-use Rattle.std.specs.Prelude.{◌≡◌, ℕ, ◌<◌, ◌≤◌, ◌⊎◌, Bool, true, false, List, Option, Some, length, codes}
+use Rattle.std.specs.Prelude.{◌≡◌, ℕ, ◌<◌, ◌≤◌, ◌⊎◌, Bool, true, false, List, Option, Some, None, length, codes}
 use Rattle.toml.specs.Data.{Data, Members}
 use Rattle.toml.specs.Parse.{parse_document}
 use Rattle.batch_reader.specs.Entries.{HasName, HasTables, IsTableOf, IsTruth, MayHaveName, has_only_key, items_at}
@@ -31,7 +31,7 @@ IsDeskFault ms wrong =
     (First (IsKeyFault (needed (codes "name") form.Name) ms wrong) ((name : List ℕ) × HasName (codes "name") ms name)
     (First (IsKeyFault (path_key (codes "input")) ms wrong) ((path : Option (List ℕ)) × MayHavePath (codes "input") ms path)
     (First (IsKeyFault (path_key (codes "output")) ms wrong) ((path : Option (List ℕ)) × MayHavePath (codes "output") ms path)
-    (First ((wrong ≡ MissingKey) × (has_way ms ≡ false)) (has_way ms ≡ true)
+    (First ((wrong ≡ MissingKey None) × (has_way ms ≡ false)) (has_way ms ≡ true)
     (First (IsKeyFault (optional (codes "unit") form.Name) ms wrong) ((unit : Option (List ℕ)) × MayHaveName (codes "unit") ms unit)
     (First (IsKeyFault (optional (codes "stays") form.Truth) ms wrong) ((stays : Bool) × IsTruth (codes "stays") ms stays)
     (IsKeyFault (optional (codes "lag") (form.Number 1 MAX_LAG)) ms wrong)))))))
@@ -42,7 +42,7 @@ IsRightDesk d = (desk : Desk) × IsTableOf IsDeskTable d desk
 
 -- there are too few desks or too many
 abbrev pub HasWrongDeskCount : List Desk → ℕ → EntryFault → Type 0
-HasWrongDeskCount desks entry wrong = (wrong ≡ OutOfLimit) × IsCountFault 1 MAX_DESKS (length desks) entry
+HasWrongDeskCount desks entry wrong = (wrong ≡ OutOfLimit None) × IsCountFault 1 MAX_DESKS (length desks) entry
 
 abbrev pub HasRightDeskCount : List Desk → Type 0
 HasRightDeskCount desks = (1 ≤ length desks) × (length desks ≤ MAX_DESKS)
@@ -73,7 +73,7 @@ IsDesksFault ms entry wrong =
 pub record IsDesksDocumentTooLong (bytes : List ℕ) (entry : ℕ) (wrong : EntryFault) : Type 0 where
   pub long : MAX_DOCUMENT_LEN < length bytes
   pub first : entry ≡ 0
-  pub told : wrong ≡ OutOfLimit
+  pub told : wrong ≡ OutOfLimit None
 
 -- the bytes are a TOML document, in which this is wrong
 pub record IsWrongInDesks (bytes : List ℕ) (entry : ℕ) (wrong : EntryFault) : Type 0 where

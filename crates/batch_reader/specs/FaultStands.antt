@@ -1,5 +1,5 @@
 -- trusted: a document has the fault that its refusal names.
-use Rattle.std.specs.Prelude.{◌≡◌, ℕ, ◌<◌, ◌⊎◌, List, Some, length}
+use Rattle.std.specs.Prelude.{◌≡◌, ℕ, ◌<◌, ◌⊎◌, List, Some, None, length}
 use Rattle.toml.specs.Data.{Members}
 use Rattle.toml.specs.Parse.{parse_document}
 use Rattle.batch_reader.specs.PartFaults.{HasEquipmentFault, HasPartFault}
@@ -21,7 +21,7 @@ pub record IsTooLong (bytes : List ℕ) (spot : Spot) (wrong : EntryFault) : Typ
   pub long : MAX_DOCUMENT_LEN < length bytes
   pub top : (spot.kind ≡ Cell) ⊎ (spot.kind ≡ Recipe)
   pub first : spot.entry ≡ 0
-  pub told : wrong ≡ OutOfLimit
+  pub told : wrong ≡ OutOfLimit None
 
 -- the bytes are a TOML document, in which this is wrong
 pub record IsWrongIn (bytes : List ℕ) (spot : Spot) (wrong : EntryFault) : Type 0 where

@@ -1,5 +1,6 @@
 -- trusted: the content of a table's refusal.
 use Rattle.std.specs.Prelude.{◌≡◌, ℕ, ◌≤◌, nat_lt, ◌⊎◌, ⊤, List, Bool, true, false, not, position, if◌then◌else◌, Option, Some, None, codes}
+use Rattle.std.specs.Borrow.{Bor}
 use Rattle.toml.specs.Data.{Data, Items, Members}
 use Rattle.batch_text.specs.NumberText.{IsNumber, number_of}
 use Rattle.batch_recipe.specs.Conditions.{Name}
@@ -14,7 +15,7 @@ use Rattle.batch_reader.specs.declared.chart_reading.TheConstants.{MAX_CHART_LEN
 use Rattle.batch_reader.specs.Entries.{HasText}
 use Rattle.batch_reader.specs.NeedText.{is_star}
 use Rattle.batch_reader.specs.PartFaults.{HasActTwice, HasRoleTwice, HasUndeclaredName, HasUndeclaredRole, HasReportTwice, HasUndeclaredReport, HasValueTwice}
-use Rattle.batch_reader.specs.TableFaults.{count_items, HasItem, IsNoNeedCut, HasTooManyUnits, IsNoNeed, IsNeedOutOfLimits, IsTableFault}
+use Rattle.batch_reader.specs.TableFaults.{count_items, HasItem, NamesKey, IsNoNeedCut, HasTooManyUnits, IsNoNeed, IsNeedOutOfLimits, IsTableFault}
 use Rattle.batch_reader.specs.declared.fault.EntryFault.{EntryFault}
 use Rattle.batch_reader.specs.declared.fault.EntryFault.TheVariants.{MissingKey, WrongKind, Undeclared, Duplicate, OutOfLimit}
 use Rattle.batch_reader.specs.declared.fault.Spot.{Spot}
@@ -71,29 +72,29 @@ abbrev pub Tells : (Spot → EntryFault → Type 0) → TableFault → Type 0
 Tells Is (Entry here wrong) = Is here wrong
 Tells Is Memory = ⊤
 
--- this is wrong with the text as that of a number of units
-abbrev pub IsUnitsFault : List ℕ → EntryFault → Type 0
-IsUnitsFault text WrongKind = ¬ IsNumber text
-IsUnitsFault text OutOfLimit = IsNumber text × (1 ≤ number_of text → number_of text ≤ MAX_NEED_UNITS → ⊥)
-IsUnitsFault text _ = ⊥
+-- this is wrong with the text as that of a number of units, among the needs at the key
+abbrev pub IsUnitsFault : List ℕ → List ℕ → EntryFault → Type 0
+IsUnitsFault key text (WrongKind named) = NamesKey key named × ¬ IsNumber text
+IsUnitsFault key text (OutOfLimit named) = NamesKey key named × IsNumber text × (1 ≤ number_of text → number_of text ≤ MAX_NEED_UNITS → ⊥)
+IsUnitsFault key text _ = ⊥
 
--- this is wrong with the text as that of a need
-abbrev pub IsNeedTextFault : List ℕ → EntryFault → Type 0
-IsNeedTextFault text WrongKind = IsNoNeedCut (position is_star text) text
-IsNeedTextFault text OutOfLimit = HasTooManyUnits (position is_star text) text
-IsNeedTextFault text _ = ⊥
+-- this is wrong with the text as that of a need, at the key
+abbrev pub IsNeedTextFault : List ℕ → List ℕ → EntryFault → Type 0
+IsNeedTextFault key text (WrongKind named) = NamesKey key named × IsNoNeedCut (position is_star text) text
+IsNeedTextFault key text (OutOfLimit named) = NamesKey key named × HasTooManyUnits (position is_star text) text
+IsNeedTextFault key text _ = ⊥
 
--- this is wrong with the value as a need
-abbrev pub IsNeedFault : Data → EntryFault → Type 0
-IsNeedFault d WrongKind = IsNoNeed d
-IsNeedFault d OutOfLimit = IsNeedOutOfLimits d
-IsNeedFault d _ = ⊥
+-- this is wrong with the value as a need, at the key
+abbrev pub IsNeedFault : List ℕ → Data → EntryFault → Type 0
+IsNeedFault key d (WrongKind named) = NamesKey key named × IsNoNeed d
+IsNeedFault key d (OutOfLimit named) = NamesKey key named × IsNeedOutOfLimits d
+IsNeedFault key d _ = ⊥
 
--- this is wrong with the items as needs
-abbrev pub IsNeedsFault : Items → EntryFault → Type 0
-IsNeedsFault items WrongKind = HasItem IsNoNeed items
-IsNeedsFault items OutOfLimit = HasItem IsNeedOutOfLimits items
-IsNeedsFault items _ = ⊥
+-- this is wrong with the items as the needs at the key
+abbrev pub IsNeedsFault : List ℕ → Items → EntryFault → Type 0
+IsNeedsFault key items (WrongKind named) = NamesKey key named × HasItem IsNoNeed items
+IsNeedsFault key items (OutOfLimit named) = NamesKey key named × HasItem IsNeedOutOfLimits items
+IsNeedsFault key items _ = ⊥
 
 -- this is wrong with the table of an act of this kind
 abbrev pub IsActFault : TableKind → Members → EntryFault → Type 0
@@ -121,24 +122,24 @@ IsReportFault outputs acts kind entry Undeclared = HasUndeclaredReport outputs a
 IsReportFault outputs acts kind entry _ = ⊥
 
 -- the fault of a key that has no value of its kind
-abbrev pub missing_or_wrong : Option Data → EntryFault
-missing_or_wrong None = MissingKey
-missing_or_wrong (Some d) = WrongKind
+abbrev pub missing_or_wrong : Bor (List ℕ) → Option Data → EntryFault
+missing_or_wrong key None = MissingKey (Some key)
+missing_or_wrong key (Some d) = WrongKind (Some key)
 
 -- the fault of a value that isn't of its kind, or isn't within its limits
-abbrev pub kind_fault : {X : Type 0} → Option X → EntryFault
-kind_fault None = WrongKind
-kind_fault (Some x) = OutOfLimit
+abbrev pub kind_fault : {X : Type 0} → Bor (List ℕ) → Option X → EntryFault
+kind_fault key None = WrongKind (Some key)
+kind_fault key (Some x) = OutOfLimit (Some key)
 
 -- the fault of a key that has no value of its kind within its limits
-abbrev pub value_fault : {X : Type 0} → (Data → Option X) → Option Data → EntryFault
-value_fault of_kind None = MissingKey
-value_fault of_kind (Some d) = kind_fault (of_kind d)
+abbrev pub value_fault : {X : Type 0} → Bor (List ℕ) → (Data → Option X) → Option Data → EntryFault
+value_fault key of_kind None = MissingKey (Some key)
+value_fault key of_kind (Some d) = kind_fault key (of_kind d)
 
 -- the fault of a key that has no list of at most so many names: there are too many, or it is no list of names
-abbrev pub few_names_fault : ℕ → Option Items → EntryFault
-few_names_fault most None = WrongKind
-few_names_fault most (Some items) = if nat_lt most (count_items items) then OutOfLimit else WrongKind
+abbrev pub few_names_fault : Bor (List ℕ) → ℕ → Option Items → EntryFault
+few_names_fault key most None = WrongKind (Some key)
+few_names_fault key most (Some items) = if nat_lt most (count_items items) then OutOfLimit (Some key) else WrongKind (Some key)
 
 -- the table has a text of the chart, whose first `par` opens at the offset, if there is one
 pub record HasReadChart (ms : Members) (chart : Diagram) (first_par : Option ℕ) : Type 0 where

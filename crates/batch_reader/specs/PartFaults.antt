@@ -1,5 +1,5 @@
 -- trusted: faults among tables that are right by themselves: their count, their names, and the names to which they refer.
-use Rattle.std.specs.Prelude.{◌≡◌, ◌≢◌, ℕ, ◌+◌, ◌<◌, ◌⊎◌, true, nat_eq, List, [], map, take, length, Some, codes}
+use Rattle.std.specs.Prelude.{◌≡◌, ◌≢◌, ℕ, ◌+◌, ◌<◌, ◌⊎◌, true, nat_eq, List, [], map, take, length, Some, None, codes}
 use Rattle.std.specs.Cmp.Lexicographic.{pointwise}
 use Rattle.std.specs.List.{IsDistinct, list_all, slice_get}
 use Rattle.toml.specs.Data.{Members}
@@ -76,7 +76,7 @@ HasUndeclaredUnit e _ entry = ⊥
 
 -- this is wrong with the equipment at the table that has this number among those of its kind
 abbrev pub IsEquipmentFault : Equipment → TableKind → ℕ → EntryFault → Type 0
-IsEquipmentFault e kind entry OutOfLimit = HasWrongCount e kind entry
+IsEquipmentFault e kind entry (OutOfLimit named) = (named ≡ None) × HasWrongCount e kind entry
 IsEquipmentFault e kind entry Duplicate = HasNameTwice e kind entry ⊎ HasPhaseTwice e kind entry
 IsEquipmentFault e kind entry Undeclared = HasUndeclaredUnit e kind entry
 IsEquipmentFault e kind entry _ = ⊥
@@ -183,7 +183,7 @@ HasReserveFault acts _ entry wrong = ⊥
 
 -- this is wrong with the parts of a recipe at the table that has this number among those of its kind
 abbrev pub IsPartFault : Parts → TableKind → ℕ → EntryFault → Type 0
-IsPartFault p kind entry OutOfLimit = HasWrongCountOfParts p kind entry ⊎ IsTooLarge p kind entry
+IsPartFault p kind entry (OutOfLimit named) = (named ≡ None) × (HasWrongCountOfParts p kind entry ⊎ IsTooLarge p kind entry)
 IsPartFault p kind entry Duplicate = HasValueTwice p.inputs p.parameters p.outputs kind entry ⊎ (HasRoleTwice p.roles kind entry ⊎ (HasActTwice p.acts kind entry ⊎ (HasReportTwice p.acts kind entry ⊎ HasReserveFault p.acts kind entry Duplicate)))
 IsPartFault p kind entry Undeclared = HasUndeclaredName (values_of_parts p) p.acts kind entry ⊎ (HasUndeclaredRole p.roles p.acts kind entry ⊎ (HasUndeclaredReport p.outputs p.acts kind entry ⊎ HasReserveFault p.acts kind entry Undeclared))
 IsPartFault p kind entry _ = ⊥

@@ -1,5 +1,6 @@
 -- worked rows: the meaning of documents of desks, and their faults.
-use Rattle.std.specs.Prelude.{◌≡◌, pos, [], ◌∷◌, ℕ, Some, None, false, true, option_map, string_bytes, codes}
+use Rattle.std.specs.Prelude.{◌≡◌, ◌≢◌, pos, List, [], ◌∷◌, ℕ, Option, Some, None, false, true, option_map, string_bytes, codes}
+use Rattle.std.specs.Borrow.{Bor}
 use Rattle.toml.specs.Data.{Members, no_members, member, boolean, integer, string}
 use Rattle.batch_reader.specs.TableFaults.{IsKeyFault}
 use Rattle.batch_reader.specs.declared.fault.EntryFault.{EntryFault}
@@ -46,28 +47,38 @@ StayIsRead = (desk : Desk) → desk.stays ≡ false → ¬ IsDeskTable (console 
 abbrev pub NothingIsWrong : Type 0
 NothingIsWrong = (wrong : EntryFault) → ¬ IsDeskFault (console no_members) wrong
 
--- a desk with neither input nor output lacks one, and nothing else is wrong with it
+-- a desk with neither input nor output lacks one, which is neither of them, and nothing else is wrong with it
 abbrev pub OneWayIsMissing : Type 0
-OneWayIsMissing = IsDeskFault (named no_members) MissingKey × (¬ IsDeskFault (named no_members) OutOfLimit)
+OneWayIsMissing = IsDeskFault (named no_members) (MissingKey None) × ((wrong : EntryFault) → wrong ≢ MissingKey None → ¬ IsDeskFault (named no_members) wrong)
 
 -- an unknown key is reported before a name that is missing
 abbrev pub UnknownKeyIsFirst : Type 0
 UnknownKeyIsFirst =
-    IsDeskFault (member (codes "lags") (integer (pos 1)) no_members) UnknownKey × (¬ IsDeskFault (member (codes "lags") (integer (pos 1)) no_members) MissingKey)
+    IsDeskFault (member (codes "lags") (integer (pos 1)) no_members) UnknownKey
+    × ((key : Option (Bor (List ℕ))) → ¬ IsDeskFault (member (codes "lags") (integer (pos 1)) no_members) (MissingKey key))
 
 -- no line may wait for a desk, or 65,537: both are out of limits; 65,536 may
 abbrev pub lag_of : ℕ → Members
 lag_of lines = console (member (codes "lag") (integer (pos lines)) no_members)
 
 abbrev pub LagIsLimited : Type 0
-LagIsLimited = IsDeskFault (lag_of 0) OutOfLimit × IsDeskFault (lag_of 65537) OutOfLimit × (¬ IsDeskFault (lag_of 65536) OutOfLimit)
+LagIsLimited =
+    (key : Bor (List ℕ)) → key.now ≡ codes "lag"
+    → IsDeskFault (lag_of 0) (OutOfLimit (Some key)) × IsDeskFault (lag_of 65537) (OutOfLimit (Some key)) × (¬ IsDeskFault (lag_of 65536) (OutOfLimit (Some key)))
 
 -- a path without bytes is out of limits, one of a byte isn't, and a number is no path
 abbrev pub PathIsLimited : Type 0
 PathIsLimited =
-    IsKeyFault (path_key (codes "input")) (member (codes "input") (string []) no_members) OutOfLimit
-    × (¬ IsKeyFault (path_key (codes "input")) (member (codes "input") (string (codes "i")) no_members) OutOfLimit)
-    × IsKeyFault (path_key (codes "input")) (member (codes "input") (integer (pos 1)) no_members) WrongKind
+    (key : Bor (List ℕ)) → key.now ≡ codes "input"
+    → IsKeyFault (path_key (codes "input")) (member (codes "input") (string []) no_members) (OutOfLimit (Some key))
+    × (¬ IsKeyFault (path_key (codes "input")) (member (codes "input") (string (codes "i")) no_members) (OutOfLimit (Some key)))
+    × IsKeyFault (path_key (codes "input")) (member (codes "input") (integer (pos 1)) no_members) (WrongKind (Some key))
+
+-- the fault of a path names no other key, and one
+abbrev pub PathIsNamed : Type 0
+PathIsNamed =
+    ((key : Bor (List ℕ)) → key.now ≡ codes "output" → ¬ IsKeyFault (path_key (codes "input")) (member (codes "input") (string []) no_members) (OutOfLimit (Some key)))
+    × (¬ IsKeyFault (path_key (codes "input")) (member (codes "input") (string []) no_members) (OutOfLimit None))
 
 -- ---- all tables
 
@@ -75,9 +86,9 @@ PathIsLimited =
 abbrev pub UnitIsNoDesk : Type 0
 UnitIsNoDesk = HasUnknownTable (member (codes "unit") (string (codes "R1")) no_members) 0 UnknownKey × (¬ HasUnknownTable no_members 0 UnknownKey)
 
--- without desks there are too few, which is reported at number 0
+-- without desks there are too few, which is reported at number 0, and of no key
 abbrev pub NoDeskIsTooFew : Type 0
-NoDeskIsTooFew = HasWrongDeskCount [] 0 OutOfLimit × (¬ HasWrongDeskCount [] 1 OutOfLimit)
+NoDeskIsTooFew = HasWrongDeskCount [] 0 (OutOfLimit None) × (¬ HasWrongDeskCount [] 1 (OutOfLimit None)) × ((key : Bor (List ℕ)) → ¬ HasWrongDeskCount [] 0 (OutOfLimit (Some key)))
 
 -- the second of two desks of one name is reported, and not the first
 abbrev pub SecondNameIsTold : Type 0

@@ -1,5 +1,6 @@
 -- worked rows: faults that a document has, and faults that it doesn't have.
-use Rattle.std.specs.Prelude.{◌≡◌, [], ◌∷◌, Some, codes}
+use Rattle.std.specs.Prelude.{◌≡◌, ℕ, List, [], ◌∷◌, Option, Some, None, codes}
+use Rattle.std.specs.Borrow.{Bor}
 use Rattle.toml.specs.Data.{Members, no_members, member, no_items, item, string, array, table}
 use Rattle.batch_cell.specs.declared.module.Module.{Module}
 use Rattle.batch_recipe.specs.declared.act.Act.{Act}
@@ -13,11 +14,17 @@ abbrev pub nameless : Members
 nameless = member (codes "cell") (string (codes "C")) (member (codes "unit") (array (item (table no_members) no_items)) no_members)
 
 abbrev pub UnitLacksItsName : Type 0
-UnitLacksItsName = IsFaultOfTable nameless table_kind.Unit 0 MissingKey
+UnitLacksItsName = (key : Bor (List ℕ)) → key.now ≡ codes "name" → IsFaultOfTable nameless table_kind.Unit 0 (MissingKey (Some key))
+
+-- it lacks no other key, and it is there
+abbrev pub UnitLacksNoOtherKey : Type 0
+UnitLacksNoOtherKey =
+    ((key : Bor (List ℕ)) → key.now ≡ codes "class" → ¬ IsFaultOfTable nameless table_kind.Unit 0 (MissingKey (Some key)))
+    × (¬ IsFaultOfTable nameless table_kind.Unit 0 (MissingKey None))
 
 -- there is no second unit
 abbrev pub NoSecondUnitLacksOne : Type 0
-NoSecondUnitLacksOne = ¬ IsFaultOfTable nameless table_kind.Unit 1 MissingKey
+NoSecondUnitLacksOne = (key : Option (Bor (List ℕ))) → ¬ IsFaultOfTable nameless table_kind.Unit 1 (MissingKey key)
 
 -- the unit has no key that is unknown
 abbrev pub NoKeyIsUnknown : Type 0
@@ -44,10 +51,10 @@ UnitBesideRoleIsUnknown = IsFaultOfTable (one_unit_procedure (λ rest. on_unit (
 abbrev pub RoleAloneIsKnown : Type 0
 RoleAloneIsKnown = ¬ IsFaultOfTable (one_unit_procedure for_role) table_kind.UnitProcedure 0 UnknownKey
 
--- one is missing if there is neither, and no key is unknown
+-- `unit` is missing if there is neither, and no key is unknown
 abbrev pub NeitherIsMissing : Type 0
 NeitherIsMissing =
-    IsFaultOfTable (one_unit_procedure (λ rest. rest)) table_kind.UnitProcedure 0 MissingKey
+    ((key : Bor (List ℕ)) → key.now ≡ codes "unit" → IsFaultOfTable (one_unit_procedure (λ rest. rest)) table_kind.UnitProcedure 0 (MissingKey (Some key)))
     × (¬ IsFaultOfTable (one_unit_procedure (λ rest. rest)) table_kind.UnitProcedure 0 UnknownKey)
 
 -- a text that begins with `s` isn't at fault there, since `skip` does too

@@ -1,5 +1,5 @@
 -- private: the soundness of a recipe's parts before its nodes are counted, and the fault of that count.
-use Rattle.std.specs.Prelude.{◌≡◌, ◌<◌, ◌≤◌, true, List, length}
+use Rattle.std.specs.Prelude.{◌≡◌, ◌<◌, ◌≤◌, true, List, length, None}
 use Rattle.batch_recipe.specs.Conditions.{Name}
 use Rattle.batch_recipe.specs.WellFormed.{are_reports, are_reserves, are_roles, is_well_formed, value_names}
 use Rattle.batch_recipe.specs.declared.acts.Acts.{Acts}
@@ -33,5 +33,5 @@ pub record HasSoundTables (inputs parameters : List Quantity) (outputs : List Na
 
 -- a fault in the size of the expanded tree is reported at the procedure
 abbrev pub outline_fault : OutlineFault → TableFault
-outline_fault outline.TooMany = Entry (record { kind = Procedure; entry = 0 }) OutOfLimit
+outline_fault outline.TooMany = Entry (record { kind = Procedure; entry = 0 }) (OutOfLimit None)
 outline_fault outline.Memory = Memory

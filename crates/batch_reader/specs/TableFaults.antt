@@ -1,5 +1,6 @@
 -- trusted: the faults of a table by itself, for which it is refused.
 use Rattle.std.specs.Prelude.{◌≡◌, ℕ, ◌+◌, ◌<◌, ◌≤◌, ℤ, pos, ◌⊎◌, ⊤, Bool, true, false, List, length, take, drop, position, Option, Some, None, option_and_then, codes}
+use Rattle.std.specs.Borrow.{Bor}
 use Rattle.std.specs.List.{slice_get}
 use Rattle.toml.specs.Data.{Data, Items, no_items, item, get_item, Members, get_member, as_str, as_integer, as_bool, as_array, as_table}
 use Rattle.batch_text.specs.NameText.{IsName}
@@ -142,11 +143,16 @@ pub record HasValue (Is : Data → Type 0) (word : List ℕ) (table : Members) :
   pub found : get_member word table ≡ Some here
   pub fits : Is here
 
+-- the fault names this key
+abbrev pub NamesKey : List ℕ → Option (Bor (List ℕ)) → Type 0
+NamesKey word None = ⊥
+NamesKey word (Some key) = key.now ≡ word
+
 -- this is wrong with the table at the key
 abbrev pub IsKeyFault : Key → Members → EntryFault → Type 0
-IsKeyFault key table MissingKey = (key.is_needed ≡ true) × (get_member key.word table ≡ None)
-IsKeyFault key table WrongKind = HasValue (IsOfWrongKind key.form) key.word table
-IsKeyFault key table OutOfLimit = HasValue (IsOutOfLimits key.form table) key.word table
+IsKeyFault key table (MissingKey named) = NamesKey key.word named × (key.is_needed ≡ true) × (get_member key.word table ≡ None)
+IsKeyFault key table (WrongKind named) = NamesKey key.word named × HasValue (IsOfWrongKind key.form) key.word table
+IsKeyFault key table (OutOfLimit named) = NamesKey key.word named × HasValue (IsOutOfLimits key.form table) key.word table
 IsKeyFault key table (Chart offset) = HasValue (HasChartFaultAt key.form offset) key.word table
 IsKeyFault key table UnknownKey = ⊥
 IsKeyFault key table Undeclared = ⊥
@@ -168,7 +174,7 @@ IsTableFault kind table wrong = ((wrong ≡ UnknownKey) × (has_known_keys kind 
 
 -- the value is no table, or this is wrong with it
 abbrev pub IsNoTableOr : (Members → EntryFault → Type 0) → Option Members → EntryFault → Type 0
-IsNoTableOr IsFault None wrong = wrong ≡ WrongKind
+IsNoTableOr IsFault None wrong = wrong ≡ WrongKind None
 IsNoTableOr IsFault (Some table) wrong = IsFault table wrong
 
 -- the list has this entry, with which this is wrong, and those before it are right
@@ -180,12 +186,12 @@ pub record IsEntryFault (IsRight : Data → Type 0) (IsFault : Members → Entry
 
 -- the value is no list, which is reported at entry 0, or this is wrong with the entry, and those before it are right
 abbrev pub IsArrayFault : (Data → Type 0) → (Members → EntryFault → Type 0) → Option Items → ℕ → EntryFault → Type 0
-IsArrayFault IsRight IsFault None entry wrong = (entry ≡ 0) × (wrong ≡ WrongKind)
+IsArrayFault IsRight IsFault None entry wrong = (entry ≡ 0) × (wrong ≡ WrongKind None)
 IsArrayFault IsRight IsFault (Some items) entry wrong = IsEntryFault IsRight IsFault items entry wrong
 
 -- the procedure is missing, or this is wrong with it
 abbrev pub IsProcedureFault : Option Data → EntryFault → Type 0
-IsProcedureFault None wrong = wrong ≡ MissingKey
+IsProcedureFault None wrong = wrong ≡ MissingKey None
 IsProcedureFault (Some d) wrong = IsNoTableOr (IsTableFault Procedure) (as_table d) wrong
 
 -- this is wrong with the table of the document that has this number among those of its kind

@@ -37,7 +37,7 @@ impl FromTable for Act {
             TableKind::Operation => operation(alloc, table, spot),
             TableKind::Phase => phase_step(alloc, table, spot),
             // never asked for: no table of another kind stands for an act, but a spot may have any kind
-            _ => Err(TableFault::Entry(spot, EntryFault::WrongKind)),
+            _ => Err(TableFault::Entry(spot, EntryFault::WrongKind(None))),
         }
     }
 }
@@ -139,11 +139,11 @@ pub(crate) fn procedure_at(alloc: Global, table: &Table, name: Name) -> Result<A
     ensures told { IfErr result (TellsAt PROCEDURE (IsProcedureFault (get_member (codes "procedure") (table_view table.now)))) }
 {
     let Some(value) = member(table, "procedure") else {
-        return Err(TableFault::Entry(PROCEDURE, EntryFault::MissingKey));
+        return Err(TableFault::Entry(PROCEDURE, EntryFault::MissingKey(None)));
     };
     match value.as_table() {
         Some(inner) => procedure(alloc, inner, name),
-        None => Err(TableFault::Entry(PROCEDURE, EntryFault::WrongKind)),
+        None => Err(TableFault::Entry(PROCEDURE, EntryFault::WrongKind(None))),
     }
 }
 

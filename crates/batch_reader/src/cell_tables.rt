@@ -80,7 +80,7 @@ fn unit_module(alloc: Global, table: &Table, spot: Spot) -> Result<Module, Table
     let unit = name_at(alloc, table, "unit", spot)?;
     let phases = names_at(alloc, table, "phases", spot)?;
     if phases.is_empty() || phases.len() > MAX_PHASES {
-        return Err(TableFault::Entry(spot, EntryFault::OutOfLimit));
+        return Err(TableFault::Entry(spot, EntryFault::OutOfLimit(Some("phases"))));
     }
     Ok(Module {
         name,

@@ -25,21 +25,22 @@ fn read_chart_at(alloc: Global, table: &Table, spot: Spot) -> Result<ReadChart, 
         → (chart : Diagram) → ¬ (HasChart (codes "chart") (table_view table.now) chart)) }
     ensures told { IfErr result (TellsAt spot (IsKeyFault (needed (codes "chart") ValueForm.Chart) (table_view table.now))) }
 {
+    let key = Some("chart");
     let Some(value) = member(table, "chart") else {
-        return Err(TableFault::Entry(spot, EntryFault::MissingKey));
+        return Err(TableFault::Entry(spot, EntryFault::MissingKey(key)));
     };
     let Some(text) = value.as_str() else {
-        return Err(TableFault::Entry(spot, EntryFault::WrongKind));
+        return Err(TableFault::Entry(spot, EntryFault::WrongKind(key)));
     };
     if text.len() > MAX_CHART_LEN {
-        return Err(TableFault::Entry(spot, EntryFault::OutOfLimit));
+        return Err(TableFault::Entry(spot, EntryFault::OutOfLimit(key)));
     }
     match read_chart_and_par(alloc, text.as_bytes()) {
         Ok(read) => Ok(read),
         Err(ChartFault::NotAChart(offset)) => {
             Err(TableFault::Entry(spot, EntryFault::Chart(offset)))
         }
-        Err(ChartFault::OutOfRange(_)) => Err(TableFault::Entry(spot, EntryFault::OutOfLimit)),
+        Err(ChartFault::OutOfRange(_)) => Err(TableFault::Entry(spot, EntryFault::OutOfLimit(key))),
         Err(ChartFault::Memory) => Err(TableFault::Memory),
     }
 }

@@ -28,19 +28,19 @@ pub(crate) fn has_key(table: &Table, key: &str) -> bool
 pub(crate) fn path_at(
     alloc: Global,
     table: &Table,
-    key: &str,
+    key: &'static str,
     spot: Spot,
 ) -> Result<Option<String>, TableFault>
     ensures ok { IfOk result (λ path. MayHavePath key.now (table_view table.now) (option_map string_bytes path)) }
     ensures refused { IfErr result (λ fault. fault ≢ TableFault.Memory
         → (path : Option (List ℕ)) → ¬ (MayHavePath key.now (table_view table.now) path)) }
-    ensures told { IfErr result (IsToldAs spot (value_fault as_str (get_member key.now (table_view table.now)))) }
+    ensures told { IfErr result (IsToldAs spot (value_fault key.entry as_str (get_member key.now (table_view table.now)))) }
 {
     let Some(path) = optional_text_at(alloc, table, key, MAX_PATH_LEN, spot)? else {
         return Ok(None);
     };
     if path.is_empty() {
-        return Err(TableFault::Entry(spot, EntryFault::OutOfLimit));
+        return Err(TableFault::Entry(spot, EntryFault::OutOfLimit(Some(key))));
     }
     Ok(Some(path))
 }

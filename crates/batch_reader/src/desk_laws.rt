@@ -9,6 +9,7 @@ ghost use Rattle.batch_reader.specs.RowsOfDesks.{
   UnknownKeyIsFirst,
   LagIsLimited,
   PathIsLimited,
+  PathIsNamed,
   UnitIsNoDesk,
   NoDeskIsTooFew,
   SecondNameIsTold,
@@ -23,7 +24,7 @@ ghost use Rattle.batch_reader.specs.RowsOfDesks.{
 /// - a table without its optional keys stands for a desk with the usual values and for no other;
 /// - a desk without input and output lacks a key;
 /// - an unknown key is reported before all else;
-/// - limits are checked at their ends;
+/// - limits are checked at their ends, and a fault names its key;
 /// - of two desks of one name the second is reported;
 /// - a unit is looked up among those of the cell.
 // claim: worked desks
@@ -37,6 +38,7 @@ pub fn worked_desks()
     ensures unknown_first { UnknownKeyIsFirst }
     ensures lag { LagIsLimited }
     ensures path { PathIsLimited }
+    ensures path_named { PathIsNamed }
     ensures no_desk { UnitIsNoDesk }
     ensures too_few { NoDeskIsTooFew }
     ensures second_name { SecondNameIsTold }

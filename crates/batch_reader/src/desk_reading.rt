@@ -1,5 +1,5 @@
 //! Documents of desks.
-ghost use Rattle.std.specs.Prelude.{◌≡◌, ◌≢◌, ◌<◌, length, Err, IfOk, IfErr, IsErrOf, IsSome, IsUtf8};
+ghost use Rattle.std.specs.Prelude.{◌≡◌, ◌≢◌, ◌<◌, length, None, Err, IfOk, IfErr, IsErrOf, IsSome, IsUtf8};
 ghost use Rattle.toml.specs.Parse.{parse_document};
 ghost use Rattle.toml.specs.View.{table_view};
 ghost use Rattle.batch_reader.specs.Faults.{TellsIn};
@@ -49,7 +49,7 @@ pub fn read_desks(alloc: Global, bytes: &[u8]) -> Result<Desks, DocFault>
         → (desks : Desks) → ¬ (IsDesksDocument bytes.now desks)) }
     // claim: many bytes of desks
     ensures long { MAX_DOCUMENT_LEN < length bytes.now
-        → result ≡ Err (DocFault.Entry (record { kind = TableKind.Desk; entry = 0 }) EntryFault.OutOfLimit) }
+        → result ≡ Err (DocFault.Entry (record { kind = TableKind.Desk; entry = 0 }) (EntryFault.OutOfLimit None)) }
     // claim: faults of desks
     ensures told { (spot : Spot) (wrong : EntryFault) → IsErrOf result (DocFault.Entry spot wrong) → spot.kind ≡ TableKind.Desk }
     // claim: first fault of desks

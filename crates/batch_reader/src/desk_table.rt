@@ -33,7 +33,7 @@ impl FromTable for Desk {
         let input = path_at(alloc, table, "input", spot)?;
         let output = path_at(alloc, table, "output", spot)?;
         if !has_way(table) {
-            return Err(TableFault::Entry(spot, EntryFault::MissingKey));
+            return Err(TableFault::Entry(spot, EntryFault::MissingKey(None)));
         }
         let unit = optional_name_at(alloc, table, "unit", spot)?;
         let stays = truth_at(table, "stays", spot)?;

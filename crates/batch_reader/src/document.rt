@@ -1,5 +1,5 @@
 //! The parsing of a document's bytes to a table.
-ghost use Rattle.std.specs.Prelude.{◌≡◌, ◌≢◌, ◌≤◌, ◌<◌, Some, Err, length, IfOk, IfErr, IsErrOf, IsSome, IsUtf8};
+ghost use Rattle.std.specs.Prelude.{◌≡◌, ◌≢◌, ◌≤◌, ◌<◌, Some, None, Err, length, IfOk, IfErr, IsErrOf, IsSome, IsUtf8};
 ghost use Rattle.toml.specs.Parse.{parse_document};
 ghost use Rattle.toml.specs.View.{table_view};
 ghost use Rattle.batch_reader.specs.declared.fault.EntryFault.{EntryFault};
@@ -22,14 +22,14 @@ pub fn table_of(alloc: Global, bytes: &[u8], top: Spot) -> Result<Table, DocFaul
     ensures is_text { IfOk result (λ _. IsUtf8 bytes.now) }
     ensures parsed { IfOk result (λ table. parse_document bytes.now ≡ Some (table_view table)) }
     ensures told { (spot : Spot) (wrong : EntryFault) → IsErrOf result (DocFault.Entry spot wrong)
-        → (spot ≡ top) × (wrong ≡ EntryFault.OutOfLimit) × (MAX_DOCUMENT_LEN < length bytes.now) }
-    ensures long { MAX_DOCUMENT_LEN < length bytes.now → result ≡ Err (DocFault.Entry top EntryFault.OutOfLimit) }
+        → (spot ≡ top) × (wrong ≡ EntryFault.OutOfLimit None) × (MAX_DOCUMENT_LEN < length bytes.now) }
+    ensures long { MAX_DOCUMENT_LEN < length bytes.now → result ≡ Err (DocFault.Entry top (EntryFault.OutOfLimit None)) }
     ensures not_toml { IsErrOf result DocFault.NotToml → ¬ (IsUtf8 bytes.now × IsSome (parse_document bytes.now)) }
     ensures refused { IfErr result (λ fault. fault ≢ DocFault.Memory
         → ¬ ((length bytes.now ≤ MAX_DOCUMENT_LEN) × (IsUtf8 bytes.now × IsSome (parse_document bytes.now)))) }
 {
     if bytes.len() > MAX_DOCUMENT_LEN {
-        return Err(DocFault::Entry(top, EntryFault::OutOfLimit));
+        return Err(DocFault::Entry(top, EntryFault::OutOfLimit(None)));
     }
     match toml::table_from_slice(alloc, bytes) {
         Ok(table) => Ok(table),

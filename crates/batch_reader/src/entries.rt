@@ -28,34 +28,39 @@ pub fn has_only_key(table: &Table, key: &str) -> bool
 }
 
 /// The name that a value is.
-fn name_of(alloc: Global, value: &Value, spot: Spot) -> Result<Name, TableFault>
+fn name_of(alloc: Global, value: &Value, key: &'static str, spot: Spot) -> Result<Name, TableFault>
     ensures ok { IfOk result (IsNameItem (view value.now)) }
     ensures refused { IfErr result (λ fault. fault ≢ TableFault.Memory
         → (name : List ℕ) → ¬ (IsNameItem (view value.now) name)) }
-    ensures told { IfErr result (IsToldAs spot EntryFault.WrongKind) }
+    ensures told { IfErr result (IsToldAs spot (EntryFault.WrongKind (Some key.entry))) }
 {
     let Some(text) = value.as_str() else {
-        return Err(TableFault::Entry(spot, EntryFault::WrongKind));
+        return Err(TableFault::Entry(spot, EntryFault::WrongKind(Some(key))));
     };
     match Name::read(alloc, text.as_bytes()) {
         Ok(name) => Ok(name),
         Err(TextFault::Memory) => Err(TableFault::Memory),
-        Err(_) => Err(TableFault::Entry(spot, EntryFault::WrongKind)),
+        Err(_) => Err(TableFault::Entry(spot, EntryFault::WrongKind(Some(key)))),
     }
 }
 
 /// The name at a key of the table at the spot. It is refused there as missing, and as of the wrong kind where it is no name.
 // claim: values of a table
-pub fn name_at(alloc: Global, table: &Table, key: &str, spot: Spot) -> Result<Name, TableFault>
+pub fn name_at(
+    alloc: Global,
+    table: &Table,
+    key: &'static str,
+    spot: Spot,
+) -> Result<Name, TableFault>
     ensures ok { IfOk result (HasName key.now (table_view table.now)) }
     ensures refused { IfErr result (λ fault. fault ≢ TableFault.Memory
         → (name : List ℕ) → ¬ (HasName key.now (table_view table.now) name)) }
-    ensures told { IfErr result (IsToldAs spot (missing_or_wrong (get_member key.now (table_view table.now)))) }
+    ensures told { IfErr result (IsToldAs spot (missing_or_wrong key.entry (get_member key.now (table_view table.now)))) }
 {
     let Some(value) = member(table, key) else {
-        return Err(TableFault::Entry(spot, EntryFault::MissingKey));
+        return Err(TableFault::Entry(spot, EntryFault::MissingKey(Some(key))));
     };
-    name_of(alloc, value, spot)
+    name_of(alloc, value, key, spot)
 }
 
 /// The name at a key of the table at the spot, where the key is there. It is refused as of the wrong kind where it is no name.
@@ -63,13 +68,13 @@ pub fn name_at(alloc: Global, table: &Table, key: &str, spot: Spot) -> Result<Na
 pub fn optional_name_at(
     alloc: Global,
     table: &Table,
-    key: &str,
+    key: &'static str,
     spot: Spot,
 ) -> Result<Option<Name>, TableFault>
     ensures ok { IfOk result (MayHaveName key.now (table_view table.now)) }
     ensures refused { IfErr result (λ fault. fault ≢ TableFault.Memory
         → (name : Option (List ℕ)) → ¬ (MayHaveName key.now (table_view table.now) name)) }
-    ensures told { IfErr result (IsToldAs spot EntryFault.WrongKind) }
+    ensures told { IfErr result (IsToldAs spot (EntryFault.WrongKind (Some key.entry))) }
 {
     if member(table, key).is_none() {
         return Ok(None);
@@ -83,44 +88,44 @@ pub fn optional_name_at(
 // claim: values of a table
 pub fn number_at(
     table: &Table,
-    key: &str,
+    key: &'static str,
     low: u64,
     high: u64,
     spot: Spot,
 ) -> Result<u64, TableFault>
     ensures ok { IfOk result (HasNumber key.now (table_view table.now) low high) }
     ensures refused { IfErr result (λ fault. (number : ℕ) → ¬ (HasNumber key.now (table_view table.now) low high number)) }
-    ensures told { IfErr result (λ fault. fault ≡ TableFault.Entry spot (value_fault as_integer (get_member key.now (table_view table.now)))) }
+    ensures told { IfErr result (λ fault. fault ≡ TableFault.Entry spot (value_fault key.entry as_integer (get_member key.now (table_view table.now)))) }
 {
     let Some(value) = member(table, key) else {
-        return Err(TableFault::Entry(spot, EntryFault::MissingKey));
+        return Err(TableFault::Entry(spot, EntryFault::MissingKey(Some(key))));
     };
     let Some(integer) = value.as_integer() else {
-        return Err(TableFault::Entry(spot, EntryFault::WrongKind));
+        return Err(TableFault::Entry(spot, EntryFault::WrongKind(Some(key))));
     };
     if integer < 0 {
-        return Err(TableFault::Entry(spot, EntryFault::OutOfLimit));
+        return Err(TableFault::Entry(spot, EntryFault::OutOfLimit(Some(key))));
     }
     let number = integer as u64;
     if number < low || number > high {
-        return Err(TableFault::Entry(spot, EntryFault::OutOfLimit));
+        return Err(TableFault::Entry(spot, EntryFault::OutOfLimit(Some(key))));
     }
     Ok(number)
 }
 
 /// The truth value at a key of the table at the spot, false where it is missing. It is refused where it is of the wrong kind.
 // claim: values of a table
-pub fn truth_at(table: &Table, key: &str, spot: Spot) -> Result<bool, TableFault>
+pub fn truth_at(table: &Table, key: &'static str, spot: Spot) -> Result<bool, TableFault>
     ensures ok { IfOk result (IsTruth key.now (table_view table.now)) }
     ensures refused { IfErr result (λ fault. (truth : Bool) → ¬ (IsTruth key.now (table_view table.now) truth)) }
-    ensures told { IfErr result (λ fault. fault ≡ TableFault.Entry spot EntryFault.WrongKind) }
+    ensures told { IfErr result (λ fault. fault ≡ TableFault.Entry spot (EntryFault.WrongKind (Some key.entry))) }
 {
     let Some(value) = member(table, key) else {
         return Ok(false);
     };
     match value.as_bool() {
         Some(truth) => Ok(truth),
-        None => Err(TableFault::Entry(spot, EntryFault::WrongKind)),
+        None => Err(TableFault::Entry(spot, EntryFault::WrongKind(Some(key)))),
     }
 }
 
@@ -128,7 +133,7 @@ pub fn truth_at(table: &Table, key: &str, spot: Spot) -> Result<bool, TableFault
 pub(crate) fn text_at(
     alloc: Global,
     table: &Table,
-    key: &str,
+    key: &'static str,
     most: usize,
     spot: Spot,
 ) -> Result<String, TableFault>
@@ -136,16 +141,16 @@ pub(crate) fn text_at(
     ensures short { IfOk result (λ text. string_len text ≤ most) }
     ensures refused { IfErr result (λ fault. fault ≢ TableFault.Memory
         → (text : List ℕ) → ¬ (HasText key.now (table_view table.now) most text)) }
-    ensures told { IfErr result (IsToldAs spot (value_fault as_str (get_member key.now (table_view table.now)))) }
+    ensures told { IfErr result (IsToldAs spot (value_fault key.entry as_str (get_member key.now (table_view table.now)))) }
 {
     let Some(value) = member(table, key) else {
-        return Err(TableFault::Entry(spot, EntryFault::MissingKey));
+        return Err(TableFault::Entry(spot, EntryFault::MissingKey(Some(key))));
     };
     let Some(text) = value.as_str() else {
-        return Err(TableFault::Entry(spot, EntryFault::WrongKind));
+        return Err(TableFault::Entry(spot, EntryFault::WrongKind(Some(key))));
     };
     if text.len() > most {
-        return Err(TableFault::Entry(spot, EntryFault::OutOfLimit));
+        return Err(TableFault::Entry(spot, EntryFault::OutOfLimit(Some(key))));
     }
     Ok(String::from_str(alloc, text)?)
 }
@@ -156,7 +161,7 @@ pub(crate) fn text_at(
 pub fn optional_text_at(
     alloc: Global,
     table: &Table,
-    key: &str,
+    key: &'static str,
     most: usize,
     spot: Spot,
 ) -> Result<Option<String>, TableFault>
@@ -164,7 +169,7 @@ pub fn optional_text_at(
     ensures short { IfOk result (λ text. ForSome text (λ t. string_len t ≤ most)) }
     ensures refused { IfErr result (λ fault. fault ≢ TableFault.Memory
         → (text : Option (List ℕ)) → ¬ (MayHaveText key.now (table_view table.now) most text)) }
-    ensures told { IfErr result (IsToldAs spot (value_fault as_str (get_member key.now (table_view table.now)))) }
+    ensures told { IfErr result (IsToldAs spot (value_fault key.entry as_str (get_member key.now (table_view table.now)))) }
 {
     if member(table, key).is_none() {
         return Ok(None);
@@ -177,33 +182,38 @@ pub fn optional_text_at(
 pub(crate) fn names_at(
     alloc: Global,
     table: &Table,
-    key: &str,
+    key: &'static str,
     spot: Spot,
 ) -> Result<Vec<Name>, TableFault>
     ensures ok { IfOk result (λ names. HasNames key.now (table_view table.now) names.items) }
     ensures refused { IfErr result (λ fault. fault ≢ TableFault.Memory
         → (names : List (List ℕ)) → ¬ (HasNames key.now (table_view table.now) names)) }
-    ensures told { IfErr result (IsToldAs spot (missing_or_wrong (get_member key.now (table_view table.now)))) }
+    ensures told { IfErr result (IsToldAs spot (missing_or_wrong key.entry (get_member key.now (table_view table.now)))) }
 {
     let Some(value) = member(table, key) else {
-        return Err(TableFault::Entry(spot, EntryFault::MissingKey));
+        return Err(TableFault::Entry(spot, EntryFault::MissingKey(Some(key))));
     };
     let Some(values) = value.as_array() else {
-        return Err(TableFault::Entry(spot, EntryFault::WrongKind));
+        return Err(TableFault::Entry(spot, EntryFault::WrongKind(Some(key))));
     };
-    names_of(alloc, values.as_slice(), spot)
+    names_of(alloc, values.as_slice(), key, spot)
 }
 
 /// The names that some values are, in order.
-pub(crate) fn names_of(alloc: Global, values: &[Value], spot: Spot) -> Result<Vec<Name>, TableFault>
+pub(crate) fn names_of(
+    alloc: Global,
+    values: &[Value],
+    key: &'static str,
+    spot: Spot,
+) -> Result<Vec<Name>, TableFault>
     ensures ok { IfOk result (λ names. AllItems IsNameItem (items_view values.now) names.items) }
     ensures refused { IfErr result (λ fault. fault ≢ TableFault.Memory
         → (names : List (List ℕ)) → ¬ (AllItems IsNameItem (items_view values.now) names)) }
-    ensures told { IfErr result (IsToldAs spot EntryFault.WrongKind) }
+    ensures told { IfErr result (IsToldAs spot (EntryFault.WrongKind (Some key.entry))) }
 {
     let mut names = Vec::with_capacity(alloc, values.len())?;
     for value in values {
-        let name = name_of(alloc, value, spot)?;
+        let name = name_of(alloc, value, key, spot)?;
         names.push(name)?;
     }
     Ok(names)

@@ -95,12 +95,14 @@ impl fmt::Display for Spot {
 /// The fault of a table.
 #[derive(Clone, Copy, Debug, Error)]
 pub enum EntryFault {
-    /// A key that the table needs is missing (of a unit procedure, both `unit` and `role`), or the document has no procedure.
+    /// A key that the table needs is missing: this one (of a unit procedure `unit`, where `role` is missing too). With none, a desk has
+    /// neither `input` nor `output`, or the document has no procedure.
     #[error("a key is missing")]
-    MissingKey,
-    /// A value is of another kind than its key has, is no name, or declares a name that is a word of charts.
+    MissingKey(Option<&'static str>),
+    /// The value at this key is of another kind than its key has, is no name, or declares a name that is a word of charts. With no key,
+    /// the table isn't there as a table.
     #[error("a value is of the wrong kind, or is no name")]
-    WrongKind,
+    WrongKind(Option<&'static str>),
     /// The table has a key that tables of its kind don't have, as a unit procedure's `unit` beside `role`.
     #[error("a key is unknown here")]
     UnknownKey,
@@ -110,9 +112,10 @@ pub enum EntryFault {
     /// A name is declared that an earlier table has, or a phase that its unit offers already.
     #[error("a name stands twice")]
     Duplicate,
-    /// A number, a text's length in bytes or a count is out of its limits, or `min` is above `max`.
+    /// At this key a number, a text's length in bytes or a count is out of its limits, or `min` is above `max`. With no key, the tables,
+    /// the nodes of the procedure or the bytes of the document are too many, or the tables too few.
     #[error("a number, a length or a count is out of its limits")]
-    OutOfLimit,
+    OutOfLimit(Option<&'static str>),
     /// The chart's text is no chart, or has a `par` where none may stand: the byte, from 0, at which this shows.
     #[error("no chart, from byte {0} on")]
     Chart(usize),

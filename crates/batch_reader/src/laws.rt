@@ -1,9 +1,9 @@
 //! Worked faults of documents.
-ghost use Rattle.batch_reader.specs.RowsOfFaults.{UnitLacksItsName, NoSecondUnitLacksOne, NoKeyIsUnknown, UnitBesideRoleIsUnknown, RoleAloneIsKnown, NeitherIsMissing, FirstByteIsGood, FirstModuleIsUndeclared, NoLaterModuleIsTold, CountsAreTold, ReserveIsUndeclared, ReserveIsDeclared, ReserveStandsTwice};
+ghost use Rattle.batch_reader.specs.RowsOfFaults.{UnitLacksItsName, NoSecondUnitLacksOne, UnitLacksNoOtherKey, NoKeyIsUnknown, UnitBesideRoleIsUnknown, RoleAloneIsKnown, NeitherIsMissing, FirstByteIsGood, FirstModuleIsUndeclared, NoLaterModuleIsTold, CountsAreTold, ReserveIsUndeclared, ReserveIsDeclared, ReserveStandsTwice};
 
 /// Worked rows:
 ///
-/// - `[[unit]]` without `name`: a key is missing in the first unit; no other unit is reported, and no key is unknown;
+/// - `[[unit]]` without `name`: this key is missing in the first unit, and no other; no other unit is reported, and no key is unknown;
 /// - a unit procedure has `unit` or `role`, and not both;
 /// - the fault of `seq(ADD`, which lacks its end, isn't at the first byte;
 /// - the first module with an undeclared unit is reported, and no later one;
@@ -13,6 +13,7 @@ ghost use Rattle.batch_reader.specs.RowsOfFaults.{UnitLacksItsName, NoSecondUnit
 pub fn worked_faults()
     ensures missing { UnitLacksItsName }
     ensures no_second { NoSecondUnitLacksOne }
+    ensures no_other { UnitLacksNoOtherKey }
     ensures known { NoKeyIsUnknown }
     ensures beside_role { UnitBesideRoleIsUnknown }
     ensures role_alone { RoleAloneIsKnown }

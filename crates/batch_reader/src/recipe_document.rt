@@ -66,7 +66,7 @@ pub fn read_recipe(alloc: Global, bytes: &[u8]) -> Result<Recipe, DocFault>
         → (recipe : Recipe) → ¬ (IsRecipeDocument bytes.now recipe)) }
     // claim: long recipe
     ensures long { MAX_DOCUMENT_LEN < length bytes.now
-        → result ≡ Err (DocFault.Entry (record { kind = TableKind.Recipe; entry = 0 }) EntryFault.OutOfLimit) }
+        → result ≡ Err (DocFault.Entry (record { kind = TableKind.Recipe; entry = 0 }) (EntryFault.OutOfLimit None)) }
     // claim: table of a recipe
     ensures told { (spot : Spot) (wrong : EntryFault) → IsErrOf result (DocFault.Entry spot wrong) → is_of_recipe spot.kind ≡ true }
     // claim: fault of a recipe; first of its kind
@@ -117,7 +117,7 @@ fn outline_fault(fault: OutlineFault) -> TableFault
                 kind: TableKind::Procedure,
                 entry: 0,
             };
-            TableFault::Entry(spot, EntryFault::OutOfLimit)
+            TableFault::Entry(spot, EntryFault::OutOfLimit(None))
         }
         OutlineFault::Memory => TableFault::Memory,
     }

@@ -30,22 +30,22 @@ pub trait FromTable: Drop {
         ensures told { IfErr result (TellsAt spot (is_fault spot.kind (table_view table.now))) };
 }
 
-/// The items of the array at a key, none where the key is missing.
+/// The items of the array at a key, none where the key is missing. It is refused as this where it is no array.
 pub(crate) fn items_at<'a>(
     table: &'a Table,
     key: &str,
-    spot: Spot,
+    refusal: TableFault,
 ) -> Result<&'a [Value], TableFault>
     ensures ok { IfOk result (λ values. items_at key.now (table_view table.now) ≡ Some (items_view values.now)) }
     ensures refused { IfErr result (λ fault. items_at key.now (table_view table.now) ≡ None) }
-    ensures told { IfErr result (λ fault. fault ≡ TableFault.Entry spot EntryFault.WrongKind) }
+    ensures told { IfErr result (λ fault. fault ≡ refusal) }
 {
     let Some(value) = member(table, key) else {
         return Ok(&[]);
     };
     match value.as_array() {
         Some(values) => Ok(values.as_slice()),
-        None => Err(TableFault::Entry(spot, EntryFault::WrongKind)),
+        None => Err(refusal),
     }
 }
 
@@ -63,16 +63,14 @@ pub fn tables_at<T: FromTable>(
         → (values : List T) → ¬ (HasTables (T.stands_for kind) key.now (table_view table.now) values)) }
     ensures told { IfErr result (TellsIn kind (IsArrayFault (λ d. (value : T) × IsTableOf (T.stands_for kind) d value) (T.is_fault kind) (items_at key.now (table_view table.now)))) }
     ensures no_list { items_at key.now (table_view table.now) ≡ None
-        → result ≡ Err (TableFault.Entry (record { kind = kind; entry = 0 }) EntryFault.WrongKind) }
+        → result ≡ Err (TableFault.Entry (record { kind = kind; entry = 0 }) (EntryFault.WrongKind None)) }
 {
     let mut values = Vec::new(alloc);
-    for (entry, item) in items_at(table, key, Spot { kind, entry: 0 })?
-        .iter()
-        .enumerate()
-    {
+    let no_array = TableFault::Entry(Spot { kind, entry: 0 }, EntryFault::WrongKind(None));
+    for (entry, item) in items_at(table, key, no_array)?.iter().enumerate() {
         let spot = Spot { kind, entry };
         let Some(inner) = item.as_table() else {
-            return Err(TableFault::Entry(spot, EntryFault::WrongKind));
+            return Err(TableFault::Entry(spot, EntryFault::WrongKind(None)));
         };
         let value = T::from_table(alloc, inner, spot)?;
         values.push(value)?;
@@ -90,13 +88,13 @@ pub fn check_count(
 ) -> Result<(), TableFault>
     ensures ok { OnOk result ((least ≤ count) × (count ≤ most)) }
     ensures refused { IfErr result (λ fault. ¬ ((least ≤ count) × (count ≤ most))) }
-    ensures told { IfErr result (λ fault. IsToldIn kind EntryFault.OutOfLimit fault × Tells (λ spot _. IsCountFault least most count spot.entry) fault) }
+    ensures told { IfErr result (λ fault. IsToldIn kind (EntryFault.OutOfLimit None) fault × Tells (λ spot _. IsCountFault least most count spot.entry) fault) }
 {
     if count < least {
-        return Err(TableFault::Entry(Spot { kind, entry: 0 }, EntryFault::OutOfLimit));
+        return Err(TableFault::Entry(Spot { kind, entry: 0 }, EntryFault::OutOfLimit(None)));
     }
     if count > most {
-        return Err(TableFault::Entry(Spot { kind, entry: most }, EntryFault::OutOfLimit));
+        return Err(TableFault::Entry(Spot { kind, entry: most }, EntryFault::OutOfLimit(None)));
     }
     Ok(())
 }

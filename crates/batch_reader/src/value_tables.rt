@@ -27,7 +27,7 @@ impl FromTable for Quantity {
         let min = number_at(table, "min", 0, MAX_VALUE, spot)?;
         let max = number_at(table, "max", 0, MAX_VALUE, spot)?;
         if min > max {
-            return Err(TableFault::Entry(spot, EntryFault::OutOfLimit));
+            return Err(TableFault::Entry(spot, EntryFault::OutOfLimit(Some("min"))));
         }
         let fixed = truth_at(table, "fixed", spot)?;
         Ok(Quantity {

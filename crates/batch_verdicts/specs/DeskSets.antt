@@ -1,5 +1,5 @@
 -- trusted: desks that are to be served, and their set, or the reason why there is none.
-use Rattle.std.specs.Prelude.{◌≡◌, ◌≢◌, ◌<◌, ◌⊎◌, ℕ, List, Some, length}
+use Rattle.std.specs.Prelude.{◌≡◌, ◌≢◌, ◌<◌, ◌⊎◌, ℕ, List, Some, None, length}
 use Rattle.batch_cell.specs.LookUps.{units_of}
 use Rattle.batch_cell.specs.declared.cell.Cell.{Cell}
 use Rattle.batch_reader.specs.PartFaults.{FailsFirst}
@@ -29,7 +29,7 @@ pub record RefusesDesks (path bytes : List ℕ) (h : Halt) : Type 0 where
   pub fault : DocFault
   pub stands : fault ≢ Memory → (desks : Desks) → ¬ (IsDesksDocument bytes desks)
   pub not_toml : fault ≡ NotToml → ¬ (IsToml bytes)
-  pub long : MAX_DOCUMENT_LEN < length bytes → fault ≡ Entry (record { kind = table.Desk; entry = 0 }) OutOfLimit
+  pub long : MAX_DOCUMENT_LEN < length bytes → fault ≡ Entry (record { kind = table.Desk; entry = 0 }) (OutOfLimit None)
   pub told : (spot : Spot) (wrong : EntryFault) → fault ≡ Entry spot wrong → spot.kind ≡ table.Desk
   pub is_there : (spot : Spot) (wrong : EntryFault) → fault ≡ Entry spot wrong → DesksFaultStands bytes spot.entry wrong
   pub halts : HaltsWith (document_text path fault) (document_kind fault) h

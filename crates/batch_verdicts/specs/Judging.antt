@@ -1,5 +1,5 @@
 -- trusted: the meaning of verdicts on documents.
-use Rattle.std.specs.Prelude.{◌≡◌, ◌≢◌, ◌≤◌, ◌<◌, ℕ, List, Bool, true, false, length, string_bytes, IsSome, IsUtf8, ⊤}
+use Rattle.std.specs.Prelude.{◌≡◌, ◌≢◌, ◌≤◌, ◌<◌, ℕ, List, Bool, true, false, None, length, string_bytes, IsSome, IsUtf8, ⊤}
 use Rattle.toml.specs.Parse.{parse_document}
 use Rattle.batch_cell.specs.LookUps.{resources_of}
 use Rattle.batch_cell.specs.declared.cell.Cell.{Cell}
@@ -77,7 +77,7 @@ pub record RefusesCell (path bytes : List ℕ) (h : Halt) : Type 0 where
   pub fault : DocFault
   pub stands : fault ≢ document.Memory → (c : Cell) → ¬ (IsCellDocument bytes c)
   pub not_toml : fault ≡ document.NotToml → ¬ (IsToml bytes)
-  pub long : MAX_DOCUMENT_LEN < length bytes → fault ≡ document.Entry (record { kind = table.Cell; entry = 0 }) OutOfLimit
+  pub long : MAX_DOCUMENT_LEN < length bytes → fault ≡ document.Entry (record { kind = table.Cell; entry = 0 }) (OutOfLimit None)
   pub told : (spot : Spot) (wrong : EntryFault) → fault ≡ document.Entry spot wrong → is_of_cell spot.kind ≡ true
   pub is_there : (spot : Spot) (wrong : EntryFault) → fault ≡ document.Entry spot wrong → FaultStands bytes spot wrong
   pub halts : HaltsWith (document_text path fault) (document_kind fault) h
@@ -87,7 +87,7 @@ pub record RefusesRecipe (path bytes : List ℕ) (h : Halt) : Type 0 where
   pub fault : DocFault
   pub stands : fault ≢ document.Memory → (r : Recipe) → ¬ (IsRecipeDocument bytes r)
   pub not_toml : fault ≡ document.NotToml → ¬ (IsToml bytes)
-  pub long : MAX_DOCUMENT_LEN < length bytes → fault ≡ document.Entry (record { kind = table.Recipe; entry = 0 }) OutOfLimit
+  pub long : MAX_DOCUMENT_LEN < length bytes → fault ≡ document.Entry (record { kind = table.Recipe; entry = 0 }) (OutOfLimit None)
   pub told : (spot : Spot) (wrong : EntryFault) → fault ≡ document.Entry spot wrong → is_of_recipe spot.kind ≡ true
   pub is_there : (spot : Spot) (wrong : EntryFault) → fault ≡ document.Entry spot wrong → FaultStands bytes spot wrong
   pub halts : HaltsWith (document_text path fault) (document_kind fault) h

@@ -30,12 +30,12 @@ refused words = line_text (codes "refused" ∷ words)
 -- Documents
 
 abbrev pub code_of : EntryFault → List ℕ
-code_of MissingKey = codes "D2"
-code_of WrongKind = codes "D3"
+code_of (MissingKey key) = codes "D2"
+code_of (WrongKind key) = codes "D3"
 code_of UnknownKey = codes "D4"
 code_of Undeclared = codes "D5"
 code_of Duplicate = codes "D6"
-code_of OutOfLimit = codes "D7"
+code_of (OutOfLimit key) = codes "D7"
 code_of (Chart offset) = codes "D8"
 
 -- the place of the fault in a chart

@@ -40,12 +40,12 @@ fn code_of(fault: EntryFault) -> &'static str
     ensures { result.now ≡ code_of fault }
 {
     match fault {
-        EntryFault::MissingKey => "D2",
-        EntryFault::WrongKind => "D3",
+        EntryFault::MissingKey(_) => "D2",
+        EntryFault::WrongKind(_) => "D3",
         EntryFault::UnknownKey => "D4",
         EntryFault::Undeclared => "D5",
         EntryFault::Duplicate => "D6",
-        EntryFault::OutOfLimit => "D7",
+        EntryFault::OutOfLimit(_) => "D7",
         EntryFault::Chart(_) => "D8",
     }
 }

@@ -12,7 +12,7 @@ returns-in_err-chosen-clause-refused c =
 pub returns-in_err-chosen-clause-told : goal.returns-in_err-chosen-clause-told
 returns-in_err-chosen-clause-told c =
     let p = err_from_is_err_and c.from_residual.result c.from_residual.ensures.1 in
-    rw (p.1, p.2) (table_told UnitProcedure (table_view c.args.table.now) 2 _ refl refl _ _ (optional_name_told (codes "role") (table_view c.args.table.now) _ _ c.in_err-chosen.ensures.refused c.in_err-chosen.ensures.told))
+    rw (p.1, p.2) (table_told UnitProcedure (table_view c.args.table.now) 2 _ refl refl _ _ (optional_name_told _ (table_view c.args.table.now) _ _ c.in_err-chosen.ensures.refused c.in_err-chosen.ensures.told))
 
 pub returns-in_err-unit-clause-refused : goal.returns-in_err-unit-clause-refused
 returns-in_err-unit-clause-refused c =
@@ -24,4 +24,4 @@ pub returns-in_err-unit-clause-told : goal.returns-in_err-unit-clause-told
 returns-in_err-unit-clause-told c =
     let p = err_from_is_err_and c.from_residual-in_err-unit.result c.from_residual-in_err-unit.ensures.1 in
     let missing : get_member (codes "role") (table_view c.args.table.now) ≡ None = search rules in
-    rw (p.1, p.2) (table_told UnitProcedure (table_view c.args.table.now) 1 _ refl (rw missing refl) _ _ (name_told (codes "unit") (table_view c.args.table.now) _ _ c.in_err-unit.ensures.refused c.in_err-unit.ensures.told))
+    rw (p.1, p.2) (table_told UnitProcedure (table_view c.args.table.now) 1 _ refl (rw missing refl) _ _ (name_told _ (table_view c.args.table.now) _ _ c.in_err-unit.ensures.refused c.in_err-unit.ensures.told))

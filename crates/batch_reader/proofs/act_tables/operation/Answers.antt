@@ -1,6 +1,6 @@
 use Rattle.std.proofs.lemmas.Result.{err_from_is_err_and}
 use Rattle.batch_recipe.specs.{Diagram.diagram_of, declared.act.TheConstants.MAX_RESERVES}
-use Rattle.std.proofs.Common.{codes, refl}
+use Rattle.std.proofs.Common.{refl}
 use Rattle.toml.specs.View.{table_view}
 use Rattle.batch_reader.{proofs.EntryFaults.few_told, proofs.EntryFaults.label_told, proofs.EntryFaults.table_told, specs.declared.fault.TableKind.TheVariants.Operation}
 use Rattle.batch_reader.proofs.act_tables.operation.Goals as goal
@@ -18,7 +18,7 @@ returns-in_err-chart-clause-refused c =
 pub returns-in_err-name-clause-told : goal.returns-in_err-name-clause-told
 returns-in_err-name-clause-told c =
     let p = err_from_is_err_and c.from_residual.result c.from_residual.ensures.1 in
-    rw (p.1, p.2) (table_told Operation (table_view c.args.table.now) 0 _ refl refl _ _ (label_told (codes "name") (table_view c.args.table.now) _ _ c.in_err-name.ensures.refused c.in_err-name.ensures.told))
+    rw (p.1, p.2) (table_told Operation (table_view c.args.table.now) 0 _ refl refl _ _ (label_told _ (table_view c.args.table.now) _ _ c.in_err-name.ensures.refused c.in_err-name.ensures.told))
 
 pub returns-in_err-needs-clause-told : goal.returns-in_err-needs-clause-told
 returns-in_err-needs-clause-told c =
@@ -38,4 +38,4 @@ returns-in_err-reserves-clause-refused c =
 pub returns-in_err-reserves-clause-told : goal.returns-in_err-reserves-clause-told
 returns-in_err-reserves-clause-told c =
     let p = err_from_is_err_and c.from_residual-in_err-reserves.result c.from_residual-in_err-reserves.ensures.1 in
-    rw (p.1, p.2) (table_told Operation (table_view c.args.table.now) 3 _ refl refl _ _ (few_told (codes "reserves") (table_view c.args.table.now) MAX_RESERVES _ _ c.in_err-reserves.ensures.refused c.in_err-reserves.ensures.told))
+    rw (p.1, p.2) (table_told Operation (table_view c.args.table.now) 3 _ refl refl _ _ (few_told _ (table_view c.args.table.now) MAX_RESERVES _ _ c.in_err-reserves.ensures.refused c.in_err-reserves.ensures.told))

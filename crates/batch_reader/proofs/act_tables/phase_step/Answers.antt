@@ -1,4 +1,4 @@
-use Rattle.std.proofs.Common.{refl, rules, codes}
+use Rattle.std.proofs.Common.{refl, rules}
 use Rattle.std.proofs.lemmas.Result.{err_from_is_err_and}
 use Rattle.batch_recipe.specs.declared.act.TheConstants.{MAX_REPORTS, MAX_RESERVES, MAX_VALUES}
 use Rattle.toml.specs.View.{table_view}
@@ -39,12 +39,12 @@ returns-clause-ok c = record {
 pub returns-in_err-name-clause-told : goal.returns-in_err-name-clause-told
 returns-in_err-name-clause-told c =
     let p = err_from_is_err_and c.from_residual.result c.from_residual.ensures.1 in
-    rw (p.1, p.2) (table_told Phase (table_view c.args.table.now) 0 _ refl refl _ _ (label_told (codes "name") (table_view c.args.table.now) _ _ c.in_err-name.ensures.refused c.in_err-name.ensures.told))
+    rw (p.1, p.2) (table_told Phase (table_view c.args.table.now) 0 _ refl refl _ _ (label_told _ (table_view c.args.table.now) _ _ c.in_err-name.ensures.refused c.in_err-name.ensures.told))
 
 pub returns-in_err-phase-clause-told : goal.returns-in_err-phase-clause-told
 returns-in_err-phase-clause-told c =
     let p = err_from_is_err_and c.from_residual-in_err-phase.result c.from_residual-in_err-phase.ensures.1 in
-    rw (p.1, p.2) (table_told Phase (table_view c.args.table.now) 1 _ refl refl _ _ (name_or_told (codes "runs") (table_view c.args.table.now) _ _ _ c.in_err-phase.ensures.refused c.in_err-phase.ensures.told))
+    rw (p.1, p.2) (table_told Phase (table_view c.args.table.now) 1 _ refl refl _ _ (name_or_told _ (table_view c.args.table.now) _ _ _ c.in_err-phase.ensures.refused c.in_err-phase.ensures.told))
 
 pub returns-in_err-needs-clause-told : goal.returns-in_err-needs-clause-told
 returns-in_err-needs-clause-told c =
@@ -54,12 +54,12 @@ returns-in_err-needs-clause-told c =
 pub returns-in_err-values-clause-told : goal.returns-in_err-values-clause-told
 returns-in_err-values-clause-told c =
     let p = err_from_is_err_and c.from_residual-in_err-values.result c.from_residual-in_err-values.ensures.1 in
-    rw (p.1, p.2) (table_told Phase (table_view c.args.table.now) 3 _ refl refl _ _ (few_told (codes "values") (table_view c.args.table.now) MAX_VALUES _ _ c.in_err-values.ensures.refused c.in_err-values.ensures.told))
+    rw (p.1, p.2) (table_told Phase (table_view c.args.table.now) 3 _ refl refl _ _ (few_told _ (table_view c.args.table.now) MAX_VALUES _ _ c.in_err-values.ensures.refused c.in_err-values.ensures.told))
 
 pub returns-in_err-reports-clause-told : goal.returns-in_err-reports-clause-told
 returns-in_err-reports-clause-told c =
     let p = err_from_is_err_and c.from_residual-in_err-reports.result c.from_residual-in_err-reports.ensures.1 in
-    rw (p.1, p.2) (table_told Phase (table_view c.args.table.now) 4 _ refl refl _ _ (few_told (codes "reports") (table_view c.args.table.now) MAX_REPORTS _ _ c.in_err-reports.ensures.refused c.in_err-reports.ensures.told))
+    rw (p.1, p.2) (table_told Phase (table_view c.args.table.now) 4 _ refl refl _ _ (few_told _ (table_view c.args.table.now) MAX_REPORTS _ _ c.in_err-reports.ensures.refused c.in_err-reports.ensures.told))
 
 pub returns-in_err-reserves-clause-refused : goal.returns-in_err-reserves-clause-refused
 returns-in_err-reserves-clause-refused c =
@@ -69,4 +69,4 @@ returns-in_err-reserves-clause-refused c =
 pub returns-in_err-reserves-clause-told : goal.returns-in_err-reserves-clause-told
 returns-in_err-reserves-clause-told c =
     let p = err_from_is_err_and c.from_residual-in_err-reserves.result c.from_residual-in_err-reserves.ensures.1 in
-    rw (p.1, p.2) (table_told Phase (table_view c.args.table.now) 5 _ refl refl _ _ (few_told (codes "reserves") (table_view c.args.table.now) MAX_RESERVES _ _ c.in_err-reserves.ensures.refused c.in_err-reserves.ensures.told))
+    rw (p.1, p.2) (table_told Phase (table_view c.args.table.now) 5 _ refl refl _ _ (few_told _ (table_view c.args.table.now) MAX_RESERVES _ _ c.in_err-reserves.ensures.refused c.in_err-reserves.ensures.told))

@@ -1,7 +1,7 @@
 use Rattle.std.proofs.lemmas.Result.{err_from_is_err_and}
 use Rattle.toml.specs.View.{table_view}
 use Rattle.batch_reader.{proofs.OneCell.unsound_refused, proofs.ArrayFaults.at_told, proofs.ArrayFaults.in_among, proofs.ArrayFaults.in_told, proofs.ArrayFaults.tells_weaker, specs.FaultStands.IsWrongAt, proofs.EntryFaults.name_told, proofs.EntryFaults.table_told, specs.declared.fault.TableKind.TheVariants.Cell, specs.declared.fault.TableKind.TheVariants.Unit, specs.declared.fault.TableKind.TheVariants.Module, specs.declared.fault.TableKind.TheVariants.Shared, specs.Faults.is_of_cell}
-use Rattle.std.proofs.Common.{codes, inl, inr, refl}
+use Rattle.std.proofs.Common.{inl, inr, refl}
 use Rattle.batch_reader.proofs.cell_document.cell_from_table.Goals as goal
 
 pub returns-in_err-units-clause-refused : goal.returns-in_err-units-clause-refused
@@ -29,7 +29,7 @@ returns-in_err-check_equipment-clause-refused c =
 pub returns-in_err-name-clause-stands : goal.returns-in_err-name-clause-stands
 returns-in_err-name-clause-stands c =
     let p = err_from_is_err_and c.from_residual.result c.from_residual.ensures.1 in
-    rw (p.1, p.2) (at_told _ _ (IsWrongAt _) (λ wrong h. inl (refl, h)) _ (table_told Cell (table_view c.args.table.now) 0 _ refl refl _ _ (name_told (codes "cell") (table_view c.args.table.now) _ _ c.in_err-name.ensures.refused c.in_err-name.ensures.told)))
+    rw (p.1, p.2) (at_told _ _ (IsWrongAt _) (λ wrong h. inl (refl, h)) _ (table_told Cell (table_view c.args.table.now) 0 _ refl refl _ _ (name_told _ (table_view c.args.table.now) _ _ c.in_err-name.ensures.refused c.in_err-name.ensures.told)))
 
 pub returns-in_err-units-clause-told : goal.returns-in_err-units-clause-told
 returns-in_err-units-clause-told c =

@@ -1,4 +1,4 @@
-use Rattle.std.proofs.Common.{◌≡◌, codes, rules}
+use Rattle.std.proofs.Common.{◌≡◌, rules}
 use Rattle.std.proofs.lemmas.Result.{err_from_is_err_and}
 use Rattle.batch_cell.specs.declared.shared.TheConstants.{MAX_CAPACITY}
 use Rattle.toml.specs.View.{table_view}
@@ -9,4 +9,4 @@ pub returns-in_err-capacity-clause-told : goal.returns-in_err-capacity-clause-to
 returns-in_err-capacity-clause-told c =
     let p = err_from_is_err_and c.from_residual.result c.from_residual.ensures.1 in
     let most : c.from.result ≡ MAX_CAPACITY = search rules in
-    rw (p.1, p.2) (rw most at (number_told (codes "capacity") (table_view c.args.table.now) 1 c.from.result _ _ c.in_err-capacity.ensures.refused c.in_err-capacity.ensures.told))
+    rw (p.1, p.2) (rw most at (number_told _ (table_view c.args.table.now) 1 c.from.result _ _ c.in_err-capacity.ensures.refused c.in_err-capacity.ensures.told))

@@ -1,5 +1,5 @@
-use Rattle.std.proofs.Common.{◌≡◌, ◌≤◌, ℕ, pos, false, [], Some, None, sym, inl, inr, refl, codes, arith, lit≤}
-use Rattle.std.{proofs.lemmas.Bool.false≢true, specs.List.IsDistinct}
+use Rattle.std.proofs.Common.{◌≡◌, ◌≤◌, ℕ, pos, false, List, [], Some, None, sym, inl, inr, refl, codes, arith, lit≤, ◌∙◌}
+use Rattle.std.{proofs.lemmas.Bool.false≢true, specs.Borrow.Bor, specs.List.IsDistinct}
 use Rattle.toml.specs.Data.{Members, no_members, member, integer, string}
 use Rattle.batch_text.specs.NameText.{IsName}
 use Rattle.batch_reader.{specs.Entries.HasName, specs.Keys.is_known, specs.declared.fault.EntryFault.TheVariants.OutOfLimit, specs.declared.keys.TheConstants.MAX_LAG, proofs.DeskRefusals.missing_refused, proofs.DeskRefusals.name_refused, proofs.DeskRefusals.none_first, proofs.DeskRefusals.number_refused, proofs.DeskRefusals.optional_name_refused, proofs.DeskRefusals.path_refused, proofs.DeskRefusals.truth_refused, specs.DesksDocument.HasPath, specs.DesksFaults.IsDeskFault, specs.RowsOfDesks.console, specs.RowsOfDesks.lag_of, specs.RowsOfDesks.named}
@@ -52,24 +52,24 @@ pub returns-clause-one_way : goal.returns-clause-one_way
 unfolding is_known
 returns-clause-one_way c = (
   inr (refl, inr ((codes "CONSOLE", has_name no_members), inr ((None, refl), inr ((None, refl), inl (refl, refl))))),
-  none_first (λ w. cc w.0)
-      (none_first (name_refused (codes "name") (named no_members) OutOfLimit (codes "CONSOLE") (has_name no_members))
-      (none_first (path_refused (codes "input") (named no_members) OutOfLimit None refl)
-      (none_first (path_refused (codes "output") (named no_members) OutOfLimit None refl)
-      (none_first (λ w. cc w.0)
-      (none_first (optional_name_refused (codes "unit") (named no_members) OutOfLimit None refl)
-      (none_first (truth_refused (codes "stays") (named no_members) OutOfLimit false refl)
-      (missing_refused (codes "lag") (named no_members) 1 MAX_LAG OutOfLimit refl))))))),
+  λ wrong other. none_first (λ w. false≢true (sym w.1))
+      (none_first (name_refused (codes "name") (named no_members) wrong (codes "CONSOLE") (has_name no_members))
+      (none_first (path_refused (codes "input") (named no_members) wrong None refl)
+      (none_first (path_refused (codes "output") (named no_members) wrong None refl)
+      (none_first (λ w. other w.0)
+      (none_first (optional_name_refused (codes "unit") (named no_members) wrong None refl)
+      (none_first (truth_refused (codes "stays") (named no_members) wrong false refl)
+      (missing_refused (codes "lag") (named no_members) 1 MAX_LAG wrong refl))))))),
 )
 
 pub returns-clause-unknown_first : goal.returns-clause-unknown_first
 unfolding is_known
-returns-clause-unknown_first c = (inl (refl, refl), λ h. elim h [ inl w ↦ cc w.0 | inr p ↦ false≢true p.0 ])
+returns-clause-unknown_first c = (inl (refl, refl), λ key h. elim h [ inl w ↦ cc w.0 | inr p ↦ false≢true p.0 ])
 
 -- the keys before the lag of a console are right
-lag_wrong : (lines : ℕ) → ((n : ℕ) → pos lines ≡ pos n → 1 ≤ n → n ≤ MAX_LAG → ⊥) → IsDeskFault (lag_of lines) OutOfLimit
+lag_wrong : (key : Bor (List ℕ)) → key.now ≡ codes "lag" → (lines : ℕ) → ((n : ℕ) → pos lines ≡ pos n → 1 ≤ n → n ≤ MAX_LAG → ⊥) → IsDeskFault (lag_of lines) (OutOfLimit (Some key))
 unfolding is_known
-lag_wrong lines outside =
+lag_wrong key is lines outside =
     inr (
       refl,
       inr (
@@ -84,7 +84,7 @@ lag_wrong lines outside =
                 (None, refl),
                 inr (
                   (false, refl),
-                  record { here = integer (pos lines); found = refl; fits = record { integer = pos lines; found = refl; outside = outside } },
+                  (is, record { here = integer (pos lines); found = refl; fits = record { integer = pos lines; found = refl; outside = outside } }),
                 ),
               ),
             ),
@@ -97,33 +97,36 @@ same_number : (m n : ℕ) → pos m ≡ pos n → m ≡ n
 same_number m n e = cc e
 
 pub returns-clause-lag : goal.returns-clause-lag
-returns-clause-lag c = (
-  lag_wrong 0 (λ n is some few. omega (arith, same_number 0 n is, some)),
-  lag_wrong 65537 (λ n is some few. omega (arith, same_number 65537 n is, few)),
+returns-clause-lag c = λ key is_lag. (
+  lag_wrong key is_lag 0 (λ n is some few. omega (arith, same_number 0 n is, some)),
+  lag_wrong key is_lag 65537 (λ n is some few. omega (arith, same_number 65537 n is, few)),
   none_first (λ w. cc w.0)
-      (none_first (name_refused (codes "name") (lag_of 65536) OutOfLimit (codes "CONSOLE") (has_name (member (codes "input") (string (codes "in")) (member (codes "lag") (integer (pos 65536)) no_members))))
-      (none_first (path_refused (codes "input") (lag_of 65536) OutOfLimit (Some (codes "in")) (has_input (member (codes "lag") (integer (pos 65536)) no_members)))
-      (none_first (path_refused (codes "output") (lag_of 65536) OutOfLimit None refl)
+      (none_first (name_refused (codes "name") (lag_of 65536) (OutOfLimit (Some key)) (codes "CONSOLE") (has_name (member (codes "input") (string (codes "in")) (member (codes "lag") (integer (pos 65536)) no_members))))
+      (none_first (path_refused (codes "input") (lag_of 65536) (OutOfLimit (Some key)) (Some (codes "in")) (has_input (member (codes "lag") (integer (pos 65536)) no_members)))
+      (none_first (path_refused (codes "output") (lag_of 65536) (OutOfLimit (Some key)) None refl)
       (none_first (λ w. cc w.0)
-      (none_first (optional_name_refused (codes "unit") (lag_of 65536) OutOfLimit None refl)
-      (none_first (truth_refused (codes "stays") (lag_of 65536) OutOfLimit false refl)
-      (number_refused (codes "lag") (lag_of 65536) 1 MAX_LAG OutOfLimit 65536 (record { integer = refl; at_least = lit≤ tt; at_most = lit≤ tt })))))))),
+      (none_first (optional_name_refused (codes "unit") (lag_of 65536) (OutOfLimit (Some key)) None refl)
+      (none_first (truth_refused (codes "stays") (lag_of 65536) (OutOfLimit (Some key)) false refl)
+      (number_refused (codes "lag") (lag_of 65536) 1 MAX_LAG (OutOfLimit (Some key)) 65536 (record { integer = refl; at_least = lit≤ tt; at_most = lit≤ tt })))))))),
 )
 
 pub returns-clause-path : goal.returns-clause-path
-returns-clause-path c = (
-  record { here = string []; found = refl; fits = record { text = []; found = refl; fits = λ some short. omega (arith, some) } },
-  path_refused (codes "input") (member (codes "input") (string (codes "i")) no_members) OutOfLimit (Some (codes "i"))
+returns-clause-path c = λ key is. (
+  (is, record { here = string []; found = refl; fits = record { text = []; found = refl; fits = λ some short. omega (arith, some) } }),
+  path_refused (codes "input") (member (codes "input") (string (codes "i")) no_members) (OutOfLimit (Some key)) (Some (codes "i"))
       (record { text = record { found = refl; short = lit≤ tt }; some = lit≤ tt }),
-  record { here = integer (pos 1); found = refl; fits = refl },
+  (is, record { here = integer (pos 1); found = refl; fits = refl }),
 )
+
+pub returns-clause-path_named : goal.returns-clause-path_named
+returns-clause-path_named c = (λ key is h. let same : codes "output" ≡ codes "input" = sym is ∙ h.0 in cc same, λ h. h.0)
 
 pub returns-clause-no_desk : goal.returns-clause-no_desk
 returns-clause-no_desk c = (record { unknown = refl; first = refl; told = refl }, λ h. false≢true (sym h.unknown))
 
 pub returns-clause-too_few : goal.returns-clause-too_few
 returns-clause-too_few c =
-    ((refl, inl (lit≤ tt, refl)), λ h. elim h.1 [ inl few ↦ omega (arith, few.1) | inr many ↦ omega (arith, many.0) ])
+    ((refl, inl (lit≤ tt, refl)), λ h. elim h.1 [ inl few ↦ omega (arith, few.1) | inr many ↦ omega (arith, many.0) ], λ key h. cc h.0)
 
 pub returns-clause-second_name : goal.returns-clause-second_name
 unfolding IsDistinct

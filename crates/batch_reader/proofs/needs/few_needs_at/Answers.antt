@@ -6,4 +6,4 @@ pub returns-then-values-most-clause-refused : goal.returns-then-values-most-clau
 returns-then-values-most-clause-refused c = λ _. few_refused IsNeedItem _ _ c.in_ok-values.values.now c.args.most c.in_ok-values.ensures.ok c.if-values-most.true
 
 pub returns-then-values-most-clause-told : goal.returns-then-values-most-clause-told
-returns-then-values-most-clause-told c = (refl, too_many_needs _ _ c.args.most c.in_ok-values.values.now c.in_ok-values.ensures.ok c.if-values-most.true)
+returns-then-values-most-clause-told c = (refl, too_many_needs c.args.key _ c.args.most c.in_ok-values.values.now c.in_ok-values.ensures.ok c.if-values-most.true)

@@ -22,7 +22,7 @@ loop-value-preserved c =
 pub returns-in_err-need-clause-told : goal.returns-in_err-need-clause-told
 returns-in_err-need-clause-told c =
     let p = err_from_is_err_and c.from_residual-in_err-need.result c.from_residual-in_err-need.ensures.1 in
-    rw (p.1, p.2) (tells_at _ _ (list_of_item c.args.values.now c.loop-value.value-index c.value-item.result c.value-item.result c.value-item.is c.loop-value-test.true) _ _ c.in_err-need.ensures.told)
+    rw (p.1, p.2) (tells_at _ _ (list_of_item c.args.values.now c.loop-value.value-index c.value-item.result c.value-item.result c.value-item.is c.loop-value-test.true c.args.key.now) _ _ c.in_err-need.ensures.told)
 
 pub returns-in_err-push-clause-refused : goal.returns-in_err-push-clause-refused
 returns-in_err-push-clause-refused c =

@@ -1,4 +1,4 @@
-use Rattle.std.proofs.Common.{codes, refl}
+use Rattle.std.proofs.Common.{refl}
 use Rattle.std.proofs.lemmas.Result.{err_from_is_err_and}
 use Rattle.batch_recipe.specs.declared.scaling.TheConstants.{MAX_SIZE}
 use Rattle.toml.specs.View.{table_view}
@@ -13,7 +13,7 @@ returns-in_err-name-clause-refused c =
 pub returns-in_err-name-clause-told : goal.returns-in_err-name-clause-told
 returns-in_err-name-clause-told c =
     let p = err_from_is_err_and c.from_residual.result c.from_residual.ensures.1 in
-    rw (p.1, p.2) (table_told Recipe (table_view c.args.table.now) 0 _ refl refl _ _ (name_told (codes "recipe") (table_view c.args.table.now) _ _ c.in_err-name.ensures.refused c.in_err-name.ensures.told))
+    rw (p.1, p.2) (table_told Recipe (table_view c.args.table.now) 0 _ refl refl _ _ (name_told _ (table_view c.args.table.now) _ _ c.in_err-name.ensures.refused c.in_err-name.ensures.told))
 
 pub returns-in_err-header-clause-refused : goal.returns-in_err-header-clause-refused
 returns-in_err-header-clause-refused c =
@@ -33,4 +33,4 @@ returns-in_err-basis-clause-refused c =
 pub returns-in_err-basis-clause-told : goal.returns-in_err-basis-clause-told
 returns-in_err-basis-clause-told c =
     let p = err_from_is_err_and c.from_residual-in_err-basis.result c.from_residual-in_err-basis.ensures.1 in
-    rw (p.1, p.2) (table_told Recipe (table_view c.args.table.now) 2 _ refl refl _ _ (number_told (codes "basis") (table_view c.args.table.now) 1 MAX_SIZE _ _ c.in_err-basis.ensures.refused c.in_err-basis.ensures.told))
+    rw (p.1, p.2) (table_told Recipe (table_view c.args.table.now) 2 _ refl refl _ _ (number_told _ (table_view c.args.table.now) 1 MAX_SIZE _ _ c.in_err-basis.ensures.refused c.in_err-basis.ensures.told))

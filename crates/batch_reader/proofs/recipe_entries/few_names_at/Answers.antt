@@ -7,8 +7,8 @@ returns-then-values-most-clause-refused c = λ _. few_refused IsNameItem _ _ c.i
 
 pub returns-then-values-most-clause-told : goal.returns-then-values-most-clause-told
 returns-then-values-most-clause-told c =
-    (refl, few_names_fault-long c.args.most _ c.in_ok-values.values.now c.in_ok-values.ensures.ok c.if-values-most.true)
+    (refl, few_names_fault-long _ c.args.most _ c.in_ok-values.values.now c.in_ok-values.ensures.ok c.if-values-most.true)
 
 pub returns-clause-told : goal.returns-clause-told
 returns-clause-told c =
-    rw (few_names_fault-short c.args.most _ c.in_ok-values.values.now c.in_ok-values.ensures.ok c.if-values-most.false) c.names_of.ensures.told
+    rw (few_names_fault-short _ c.args.most _ c.in_ok-values.values.now c.in_ok-values.ensures.ok c.if-values-most.false) c.names_of.ensures.told

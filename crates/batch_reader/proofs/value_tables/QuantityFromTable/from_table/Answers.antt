@@ -8,22 +8,22 @@ use Rattle.batch_reader.proofs.value_tables.QuantityFromTable.from_table.Goals a
 pub returns-in_err-name-clause-told : goal.returns-in_err-name-clause-told
 returns-in_err-name-clause-told c =
     let p = err_from_is_err_and c.from_residual.result c.from_residual.ensures.1 in
-    rw (p.1, p.2) (table_told Input (table_view c.args.table.now) 0 _ refl refl _ _ (label_told (codes "name") (table_view c.args.table.now) _ _ c.in_err-name.ensures.refused c.in_err-name.ensures.told))
+    rw (p.1, p.2) (table_told Input (table_view c.args.table.now) 0 _ refl refl _ _ (label_told _ (table_view c.args.table.now) _ _ c.in_err-name.ensures.refused c.in_err-name.ensures.told))
 
 pub returns-in_err-value-clause-told : goal.returns-in_err-value-clause-told
 returns-in_err-value-clause-told c =
     let p = err_from_is_err_and c.from_residual-in_err-value.result c.from_residual-in_err-value.ensures.1 in
-    rw (p.1, p.2) (table_told Input (table_view c.args.table.now) 1 _ refl refl _ _ (number_told (codes "value") (table_view c.args.table.now) _ _ _ _ c.in_err-value.ensures.refused c.in_err-value.ensures.told))
+    rw (p.1, p.2) (table_told Input (table_view c.args.table.now) 1 _ refl refl _ _ (number_told _ (table_view c.args.table.now) _ _ _ _ c.in_err-value.ensures.refused c.in_err-value.ensures.told))
 
 pub returns-in_err-min-clause-told : goal.returns-in_err-min-clause-told
 returns-in_err-min-clause-told c =
     let p = err_from_is_err_and c.from_residual-in_err-min.result c.from_residual-in_err-min.ensures.1 in
-    rw (p.1, p.2) (table_told Input (table_view c.args.table.now) 2 _ refl refl _ _ (least_told (codes "min") (table_view c.args.table.now) MAX_VALUE _ _ c.in_err-min.ensures.refused c.in_err-min.ensures.told))
+    rw (p.1, p.2) (table_told Input (table_view c.args.table.now) 2 _ refl refl _ _ (least_told _ (table_view c.args.table.now) MAX_VALUE _ _ c.in_err-min.ensures.refused c.in_err-min.ensures.told))
 
 pub returns-in_err-max-clause-told : goal.returns-in_err-max-clause-told
 returns-in_err-max-clause-told c =
     let p = err_from_is_err_and c.from_residual-in_err-max.result c.from_residual-in_err-max.ensures.1 in
-    rw (p.1, p.2) (table_told Input (table_view c.args.table.now) 3 _ refl refl _ _ (number_told (codes "max") (table_view c.args.table.now) _ _ _ _ c.in_err-max.ensures.refused c.in_err-max.ensures.told))
+    rw (p.1, p.2) (table_told Input (table_view c.args.table.now) 3 _ refl refl _ _ (number_told _ (table_view c.args.table.now) _ _ _ _ c.in_err-max.ensures.refused c.in_err-max.ensures.told))
 
 pub returns-then-min-max-clause-told : goal.returns-then-min-max-clause-told
 returns-then-min-max-clause-told c = (
@@ -33,14 +33,14 @@ returns-then-min-max-clause-told c = (
     key = _;
     listed = refl;
     stands = refl;
-    fault = above_fault (codes "min") (table_view c.args.table.now) MAX_VALUE c.in_ok-min.min c.in_ok-max.max c.in_ok-min.ensures.ok c.in_ok-max.ensures.ok c.if-min-max.true;
+    fault = (refl, above_fault (codes "min") (table_view c.args.table.now) MAX_VALUE c.in_ok-min.min c.in_ok-max.max c.in_ok-min.ensures.ok c.in_ok-max.ensures.ok c.if-min-max.true);
   }),
 )
 
 pub returns-in_err-fixed-clause-told : goal.returns-in_err-fixed-clause-told
 returns-in_err-fixed-clause-told c =
     let p = err_from_is_err_and c.from_residual-in_err-fixed.result c.from_residual-in_err-fixed.ensures.1 in
-    rw (p.1, p.2) (table_told Input (table_view c.args.table.now) 4 _ refl refl _ _ (truth_told (codes "fixed") (table_view c.args.table.now) _ _ c.in_err-fixed.ensures.refused c.in_err-fixed.ensures.told))
+    rw (p.1, p.2) (table_told Input (table_view c.args.table.now) 4 _ refl refl _ _ (truth_told _ (table_view c.args.table.now) _ _ c.in_err-fixed.ensures.refused c.in_err-fixed.ensures.told))
 
 pub returns-in_err-name-clause-refused : goal.returns-in_err-name-clause-refused
 returns-in_err-name-clause-refused c =
