@@ -2,8 +2,10 @@
 use Rattle.std.proofs.Common.{◌≡◌, ℕ, ◌+◌, ◌<◌, ◌++◌, List, [], ◌∷◌, length, map, take, get_or, ap, sym, subst, ◌∙◌, append_assoc}
 use Rattle.std.proofs.lemmas.List.{append-nil, map-append, take_more}
 use Rattle.batch_recipe.specs.declared.recipe.Recipe.{Recipe}
+use Rattle.batch_cell.specs.declared.cell.Cell.{Cell}
 use Rattle.batch_journal.specs.{Digests.HasTaken, declared.digest.DocumentsDigest.DocumentsDigest}
-use Rattle.batch_verdicts.specs.{Digested.ReadsRecipeText, Digested.ReadsTexts, Taking.AreTaken, Reading.Gives, Reading.ReadsRecipes}
+use Rattle.batch_verify.specs.{CertificateText.Rank, ClearedSet.ClearedSet}
+use Rattle.batch_verdicts.specs.{Digested.AreDigested, Digested.ReadsCellText, Digested.ReadsRecipeText, Digested.ReadsTexts, Taking.AreTaken, Reading.AreCleared, Reading.AreRead, Reading.Gives, Reading.ReadsCertificate, Reading.ReadsRecipes}
 
 pub none_taken : (gives : Gives) (rs : List Recipe) (digest : DocumentsDigest) → rs ≡ [] → AreTaken gives [] rs digest digest
 none_taken gives rs digest none = record {
@@ -46,3 +48,26 @@ takes_next gives text_of paths i path name text rs r after old mid new within is
       texts = subst Whole (sym whole) (subst Grown (sym grown) (reads_more gives (map text_of (take i paths)) before.read rs (text_of path) text r before.texts (subst Named value here)));
       taken = λ first has. subst (λ (l : List (List ℕ)). HasTaken new l) (append_assoc first before.read (text ∷ [])) (takes (first ++ before.read) (before.taken first has));
     }
+
+-- the documents of a set, without their texts
+
+pub are_read : (gives : Gives) (cell certificate : List ℕ) (paths : List (List ℕ)) (c : Cell) (ranks : List Rank) (rs : List Recipe) (text : List ℕ) (old new : DocumentsDigest)
+    → ReadsCellText gives cell text c → ReadsCertificate gives certificate ranks → AreTaken gives paths rs old new
+    → AreRead gives cell certificate paths c ranks rs
+are_read gives cell certificate paths c ranks rs text old new with_cell with_certificate taken = record {
+  cell_read = (text, with_cell.0, with_cell.1);
+  certificate_read = with_certificate;
+  recipes_read = reads_recipes gives paths taken.read rs taken.texts;
+}
+
+pub are_cleared : (gives : Gives) (cell certificate : List ℕ) (paths : List (List ℕ)) (set : ClearedSet) (digits : List ℕ)
+    → AreDigested gives cell certificate paths set digits → AreCleared gives cell certificate paths set
+are_cleared gives cell certificate paths set digits digested = record {
+  ranks = digested.ranks;
+  read = record {
+    cell_read = (digested.cell_text, digested.cell_read.0, digested.cell_read.1);
+    certificate_read = digested.certificate_read;
+    recipes_read = reads_recipes gives paths digested.texts set.recipes digested.recipes_read;
+  };
+  cleared = digested.cleared;
+}

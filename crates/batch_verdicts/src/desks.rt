@@ -5,8 +5,8 @@ ghost use Rattle.batch_reader.specs.DeskUnits.{HaveUnits};
 ghost use Rattle.batch_reader.specs.DesksDocument.{IsDesksDocument};
 ghost use Rattle.batch_verdicts.specs.DeskSets.{AreDesksCleared, HaltsAtDesks, HaltsDesks, ReadsDesks, RefusesDesks, RefusesUnits};
 
-use crate::digested::{Digested, clear_behind, read_cell};
-use crate::documents::Documents;
+use crate::digested::{Digested, clear_behind};
+use crate::documents::{Documents, read_cell};
 use crate::judging::document_halt;
 use crate::refusal::Halt;
 use batch_cell::Cell;

@@ -1,15 +1,21 @@
 //! Reading and judging documents, each before the next.
-ghost use Rattle.std.specs.Prelude.{◌≡◌, ℕ, List, [], Option, map, IfOk, IfErr, string_bytes};
-ghost use Rattle.batch_verdicts.specs.Halting.{HaltsAtCell, HaltsAtCertificate, HaltsAtDocuments, HaltsAtRecipe, HaltsAtRecipes, HaltsClearing, HaltsReading, HaltsVerifying};
-ghost use Rattle.batch_verdicts.specs.Reading.{AreCleared, AreRead, AreReadWarned, IsUnread, ReadsCell, ReadsCertificate, ReadsRecipe, ReadsRecipes, VerifiesDocuments, ShowsDocuments};
+ghost use Rattle.std.specs.Prelude.{◌≡◌, ◌++◌, ◌∷◌, ℕ, List, [], Option, map, IfOk, IfErr, string_bytes};
+ghost use Rattle.batch_journal.specs.Digests.{HasTaken};
+ghost use Rattle.batch_verdicts.specs.Digested.{ReadsCellText, ReadsRecipeText};
+ghost use Rattle.batch_verdicts.specs.Halting.{HaltsAtCell, HaltsAtCertificate, HaltsAtDocuments, HaltsAtRecipe, HaltsAtRecipes, HaltsClearing, HaltsVerifying};
+ghost use Rattle.batch_verdicts.specs.Looking.{AreAllRead};
+ghost use Rattle.batch_verdicts.specs.Reading.{AreCleared, IsUnread, ReadsCertificate, VerifiesDocuments, ShowsDocuments};
 ghost use Rattle.batch_verdicts.specs.Saying.{IsWarned};
+ghost use Rattle.batch_verdicts.specs.Taking.{AreTaken};
 
+use crate::digested::clear_digested;
 use crate::judging::{
     MAX_CERTIFICATE_LEN, clear_recipes, parse_cell, parse_certificate, parse_recipe,
 };
 use crate::refusal::Halt;
 use crate::warnings::warn;
 use batch_cell::Cell;
+use batch_journal::DocumentsDigest;
 use batch_messages::RecipeSource;
 use batch_outline::show_recipes;
 use batch_reader::MAX_DOCUMENT_LEN;
@@ -38,26 +44,20 @@ pub(crate) struct CellDocuments {
     pub(crate) sources: Vec<RecipeSource>,
 }
 
-/// Reads the documents, and warns of them. The first that can't be read or is refused ends it.
-pub(crate) fn read_warned<D: Documents, E: Write>(
+/// Reads the documents. The first that can't be read or is refused ends it.
+pub(crate) fn read_each<D: Documents>(
     alloc: Global,
     documents: &D,
     cell: &str,
     recipes: &[String],
-    quiet: bool,
-    errors: &mut E,
 ) -> Result<CellDocuments, Halt>
-    ensures read { IfOk result (λ read. AreReadWarned (D.gives documents.now) (IsWarned quiet (E.contents errors.old) (E.contents errors.new))
-        cell.now (map string_bytes recipes.now) read.cell read.recipes.items) }
-    ensures halted { IfErr result (λ halt. HaltsAtDocuments (D.gives documents.now) cell.now (map string_bytes recipes.now) halt
-        × IsWarned quiet (E.contents errors.old) (E.contents errors.new) []) }
+    ensures read { IfOk result (λ read. AreAllRead (D.gives documents.now) cell.now (map string_bytes recipes.now) read.cell read.recipes.items) }
+    ensures halted { IfErr result (HaltsAtDocuments (D.gives documents.now) cell.now (map string_bytes recipes.now)) }
 {
-    let path = cell;
-    let cell = read_cell(alloc, documents, path)?;
-    let paths = recipes;
+    let mut digest = DocumentsDigest::new();
+    let cell = read_cell(alloc, documents, cell, &mut digest)?;
     let mut sources = Vec::new(alloc);
-    let recipes = read_recipes(alloc, documents, paths, &mut sources)?;
-    warn(alloc, quiet, path, &cell, paths, &recipes, errors);
+    let recipes = read_recipes(alloc, documents, recipes, &mut sources, &mut digest)?;
     Ok(CellDocuments {
         cell,
         recipes,
@@ -83,9 +83,14 @@ pub fn verify_documents<D: Documents, E: Write>(
     ensures halted { IfErr result (HaltsVerifying (D.gives documents.now) (IsWarned quiet (E.contents errors.old) (E.contents errors.new))
         cell.now certificate.now (map string_bytes recipes.now)) }
 {
-    let set = read_set(alloc, documents, cell, certificate, recipes)?;
-    warn(alloc, quiet, cell, &set.cell, recipes, &set.recipes, errors);
-    clear_recipes(alloc, set.cell, set.recipes, &set.sources, &set.certificate)?;
+    let (path, paths) = (cell, recipes);
+    let mut digest = DocumentsDigest::new();
+    let cell = read_cell(alloc, documents, path, &mut digest)?;
+    let certificate = read_certificate(alloc, documents, certificate)?;
+    let mut sources = Vec::new(alloc);
+    let recipes = read_recipes(alloc, documents, paths, &mut sources, &mut digest)?;
+    warn(alloc, quiet, path, &cell, paths, &recipes, errors);
+    clear_recipes(alloc, cell, recipes, &sources, &certificate)?;
     Ok(String::from_str(alloc, "accepted\n")?)
 }
 
@@ -101,10 +106,8 @@ pub fn show_documents<D: Documents>(
     ensures verdict { IfOk result (λ text. ShowsDocuments (D.gives documents.now) cell.now (map string_bytes recipes.now) (string_bytes text)) }
     ensures halted { IfErr result (HaltsAtDocuments (D.gives documents.now) cell.now (map string_bytes recipes.now)) }
 {
-    read_cell(alloc, documents, cell)?;
-    let mut sources = Vec::new(alloc);
-    let recipes = read_recipes(alloc, documents, recipes, &mut sources)?;
-    Ok(show_recipes(alloc, &recipes)?)
+    let read = read_each(alloc, documents, cell, recipes)?;
+    Ok(show_recipes(alloc, &read.recipes)?)
 }
 
 /// The set that the documents at these paths make, cleared by the certificate among them: the one way from documents to a set
@@ -123,59 +126,25 @@ pub fn clear_documents<D: Documents>(
     // claim: no set
     ensures halted { IfErr result (HaltsClearing (D.gives documents.now) cell.now certificate.now (map string_bytes recipes.now)) }
 {
-    let read = read_set(alloc, documents, cell, certificate, recipes)?;
-    clear_recipes(
-        alloc,
-        read.cell,
-        read.recipes,
-        &read.sources,
-        &read.certificate,
-    )
+    let digested = clear_digested(alloc, documents, cell, certificate, recipes)?;
+    Ok(digested.set)
 }
 
-/// The contents of the documents of a set.
-#[derive(Drop)]
-struct DocumentSet {
-    cell: Cell,
-    certificate: Certificate,
-    recipes: Vec<Recipe>,
-    /// The files and lines of the acts of the recipes.
-    sources: Vec<RecipeSource>,
-}
-
-fn read_set<D: Documents>(
-    alloc: Global,
-    documents: &D,
-    cell: &str,
-    certificate: &str,
-    recipes: &[String],
-) -> Result<DocumentSet, Halt>
-    ensures read { IfOk result (λ set. AreRead (D.gives documents.now) cell.now certificate.now (map string_bytes recipes.now)
-        set.cell set.certificate.ranks.items set.recipes.items) }
-    ensures halted { IfErr result (HaltsReading (D.gives documents.now) cell.now certificate.now (map string_bytes recipes.now)) }
-{
-    let cell = read_cell(alloc, documents, cell)?;
-    let certificate = read_certificate(alloc, documents, certificate)?;
-    let mut sources = Vec::new(alloc);
-    let recipes = read_recipes(alloc, documents, recipes, &mut sources)?;
-    Ok(DocumentSet {
-        cell,
-        certificate,
-        recipes,
-        sources,
-    })
-}
-
+/// The cell of the document at the path, whose text the digest takes.
 pub(crate) fn read_cell<D: Documents>(
     alloc: Global,
     documents: &D,
     path: &str,
+    digest: &mut DocumentsDigest,
 ) -> Result<Cell, Halt>
-    ensures read { IfOk result (ReadsCell (D.gives documents.now) path.now) }
+    ensures read { IfOk result (λ cell. (text : List ℕ) × ReadsCellText (D.gives documents.now) path.now text cell
+        × ((texts : List (List ℕ)) → HasTaken digest.old texts → HasTaken digest.new (texts ++ text ∷ []))) }
     ensures halted { IfErr result (HaltsAtCell (D.gives documents.now) path.now) }
 {
     let bytes = documents.read(alloc, path, MAX_DOCUMENT_LEN)?;
-    parse_cell(alloc, path, &bytes)
+    let cell = parse_cell(alloc, path, &bytes)?;
+    digest.push_document(&bytes);
+    Ok(cell)
 }
 
 pub(crate) fn read_certificate<D: Documents>(
@@ -190,18 +159,21 @@ pub(crate) fn read_certificate<D: Documents>(
     parse_certificate(alloc, path, &text)
 }
 
-/// The recipe of the document at the path. Appends its source to those of the recipes before it.
+/// The recipe of the document at the path. Appends its source to those of the recipes before it; the digest takes its text.
 pub(crate) fn read_recipe<D: Documents>(
     alloc: Global,
     documents: &D,
     path: &str,
     sources: &mut Vec<RecipeSource>,
+    digest: &mut DocumentsDigest,
 ) -> Result<Recipe, Halt>
-    ensures read { IfOk result (ReadsRecipe (D.gives documents.now) path.now) }
+    ensures read { IfOk result (λ recipe. (text : List ℕ) × ReadsRecipeText (D.gives documents.now) path.now text recipe
+        × ((texts : List (List ℕ)) → HasTaken digest.old texts → HasTaken digest.new (texts ++ text ∷ []))) }
     ensures halted { IfErr result (HaltsAtRecipe (D.gives documents.now) path.now) }
 {
     let bytes = documents.read(alloc, path, MAX_DOCUMENT_LEN)?;
     let recipe = parse_recipe(alloc, path, &bytes)?;
+    digest.push_document(&bytes);
     sources.push(RecipeSource::of(alloc, path, &bytes)?)?;
     Ok(recipe)
 }
@@ -211,13 +183,14 @@ pub(crate) fn read_recipes<D: Documents>(
     documents: &D,
     paths: &[String],
     sources: &mut Vec<RecipeSource>,
+    digest: &mut DocumentsDigest,
 ) -> Result<Vec<Recipe>, Halt>
-    ensures read { IfOk result (λ recipes. ReadsRecipes (D.gives documents.now) (map string_bytes paths.now) recipes.items) }
+    ensures read { IfOk result (λ recipes. AreTaken (D.gives documents.now) (map string_bytes paths.now) recipes.items digest.old digest.new) }
     ensures halted { IfErr result (HaltsAtRecipes (D.gives documents.now) (map string_bytes paths.now)) }
 {
     let mut recipes = Vec::new(alloc);
     for path in paths {
-        let recipe = read_recipe(alloc, documents, path.as_str(), sources)?;
+        let recipe = read_recipe(alloc, documents, path.as_str(), sources, digest)?;
         recipes.push(recipe)?;
     }
     Ok(recipes)

@@ -1,8 +1,8 @@
 //! Running the program's commands.
-ghost use Rattle.std.specs.Prelude.{◌≡◌, IfErr, IfOk, OnOk, map, option_map, string_bytes};
-ghost use Rattle.batch_cli.specs.CommandLine.{audit, judgement_of, keep, plant, remark, request_of, serve, serve_desks, source_of};
+ghost use Rattle.std.specs.Prelude.{◌≡◌, IfErr, IfOk, OnOk, map, string_bytes};
+ghost use Rattle.batch_cli.specs.CommandLine.{judgement_of, request_of, source_of};
 ghost use Rattle.std.specs.Io.KnownBytes.{Appends};
-ghost use Rattle.batch_verdicts.specs.Requests.{HaltsDemo, HaltsJudgement, HaltsSource, IsDemoSet, IsSetOf, IsVerdictText};
+ghost use Rattle.batch_verdicts.specs.Requests.{Halts, HaltsDemo, HaltsJudgement, HaltsSource, IsDemoSet, IsSetOf, IsVerdictText};
 ghost use Rattle.std.specs.List.{flat_map, list_any};
 ghost use Rattle.batch_verdicts.specs.Judging.{is_for_memory};
 ghost use Rattle.batch_verdicts.specs.Running.{AreRefused, IsAnnounced, IsDone, IsExplained, IsPrinted, IsRefused, IsRun, fault_status, status_of_every};
@@ -15,17 +15,14 @@ use crate::digested::clear_digested;
 use crate::documents::{Documents, clear_documents, show_documents, verify_documents};
 use crate::every::{check_asked, draw_asked};
 use crate::refusal::{DocumentRefusal, Halt};
-use crate::saying::{write_sentence, write_sentences};
-use batch_cli::{
-    AuditWords, CommandFault, CommandWords, Comments, DeskWords, Judgement, PlantOptions,
-    SetSource, Subcommand, parse,
-};
+use crate::saying::write_sentences;
+use batch_cli::{CommandFault, CommandWords, Judgement, SetSource, Subcommand, parse};
 use batch_messages::explain;
 use batch_verify::Cleared;
 use std::alloc::{AllocError, Global};
 use std::fmt::Display;
-use std::io;
 use std::io::Write;
+use std::{io, slice};
 use thiserror::Error;
 
 /// The exit status if the requested text is printed.
@@ -95,196 +92,92 @@ fn run_command<D: Documents, O: Write, E: Write>(
         (record { before = E.contents errors.old; after = E.contents errors.new }) result }
 {
     let quiet = words.quiet;
+    match course_of(alloc, words, documents, output, errors) {
+        Ok(course) => course,
+        Err(halt) => Course::Ends(announce(alloc, quiet, &halt, output, errors)),
+    }
+}
+
+/// The course of the command. If there is no verdict that accepts, or no set, nothing is written but the warnings of a judgement.
+fn course_of<D: Documents, O: Write, E: Write>(
+    alloc: Global,
+    words: CommandWords,
+    documents: &D,
+    output: &mut O,
+    errors: &mut E,
+) -> Result<Course, Halt>
+    ensures done { IfOk result (IsDone (D.gives documents.now) (request_of words.command) words.quiet
+        (record { before = O.contents output.old; after = O.contents output.new })
+        (record { before = E.contents errors.old; after = E.contents errors.new })) }
+    ensures halted { IfErr result (λ halt. Halts (D.gives documents.now) (IsWarned words.quiet (E.contents errors.old) (E.contents errors.new)) (request_of words.command) halt
+        × (O.contents output.new ≡ O.contents output.old)) }
+{
+    let quiet = words.quiet;
     match words.command {
         Subcommand::Judge(judgement) => {
-            match run_judgement(alloc, documents, &judgement, quiet, errors) {
-                Ok(text) => Course::Ends(print(output, errors, &text, SUCCESS)),
-                Err(halt) => Course::Ends(announce(alloc, quiet, &halt, output, errors)),
-            }
+            let text = run_judgement(alloc, documents, &judgement, quiet, errors)?;
+            Ok(Course::Ends(print(output, errors, &text, SUCCESS)))
         }
         Subcommand::Write { path, judgement } => {
-            match run_judgement(alloc, documents, &judgement, quiet, errors) {
-                Ok(text) => Course::Writes { path, text },
-                Err(halt) => Course::Ends(announce(alloc, quiet, &halt, output, errors)),
-            }
+            let text = run_judgement(alloc, documents, &judgement, quiet, errors)?;
+            Ok(Course::Writes { path, text })
         }
-        Subcommand::Serve(source) => serve(alloc, quiet, &source, documents, output, errors),
+        Subcommand::Serve(source) => {
+            let set = clear_source(alloc, documents, &source)?;
+            Ok(Course::Serves { set, quiet })
+        }
         Subcommand::Remark { source, comments } => {
-            remark(alloc, quiet, &source, comments, documents, output, errors)
+            let set = clear_source(alloc, documents, &source)?;
+            Ok(Course::Remarks {
+                set,
+                quiet,
+                comments,
+            })
         }
         Subcommand::Keep {
-            journal,
+            journal: path,
             cell,
             certificate,
             recipes,
             comments,
-        } => serve_with_journal(
-            alloc,
-            quiet,
-            journal,
-            &cell,
-            &certificate,
-            &recipes,
-            comments,
-            documents,
-            output,
-            errors,
-        ),
-        Subcommand::ServeDesks(words) => serve_desks(
-            alloc, quiet, words, documents, output, errors,
-        ),
-        Subcommand::Status { path } => Course::Reads { path },
-        Subcommand::Picture { path } => Course::Draws { path },
-        Subcommand::Audit(words) => audit(alloc, quiet, words, documents, output, errors),
+        } => {
+            let digested = clear_digested(alloc, documents, &cell, &certificate, &recipes)?;
+            Ok(Course::Keeps {
+                digested,
+                quiet,
+                path,
+                comments,
+            })
+        }
+        Subcommand::ServeDesks(words) => {
+            let served = clear_desks(
+                alloc,
+                documents,
+                &words.desks,
+                &words.cell,
+                &words.certificate,
+                &words.recipes,
+            )?;
+            Ok(Course::ServesDesks {
+                served,
+                quiet,
+                journal: words.journal,
+                times: words.times,
+            })
+        }
+        Subcommand::Status { path } => Ok(Course::Reads { path }),
+        Subcommand::Picture { path } => Ok(Course::Draws { path }),
+        Subcommand::Audit(audit) => {
+            let set = clear_source(alloc, documents, &audit.source)?;
+            Ok(Course::Audits { set, audit })
+        }
         Subcommand::Plant { source, options } => {
-            plant(alloc, quiet, &source, options, documents, output, errors)
+            let set = clear_source(alloc, documents, &source)?;
+            Ok(Course::Plants { set, options })
         }
         Subcommand::Explain { texts } => {
-            Course::Ends(print_codes(alloc, &texts, output, errors))
+            Ok(Course::Ends(print_codes(alloc, &texts, output, errors)))
         }
-    }
-}
-
-/// Has the set of a source served.
-fn serve<D: Documents, O: Write, E: Write>(
-    alloc: Global,
-    quiet: bool,
-    source: &SetSource,
-    documents: &D,
-    output: &mut O,
-    errors: &mut E,
-) -> Course
-    ensures { IsDone (D.gives documents.now) (serve (source_of source.now)) quiet
-        (record { before = O.contents output.old; after = O.contents output.new })
-        (record { before = E.contents errors.old; after = E.contents errors.new }) result }
-{
-    match clear_source(alloc, documents, source) {
-        Ok(set) => Course::Serves { set, quiet },
-        Err(halt) => Course::Ends(announce(alloc, quiet, &halt, output, errors)),
-    }
-}
-
-/// Has desks served over the set of the documents that the words name, with a journal or without one.
-fn serve_desks<D: Documents, O: Write, E: Write>(
-    alloc: Global,
-    quiet: bool,
-    words: DeskWords,
-    documents: &D,
-    output: &mut O,
-    errors: &mut E,
-) -> Course
-    ensures { IsDone (D.gives documents.now) (serve_desks (option_map string_bytes words.journal) (string_bytes words.desks) (string_bytes words.cell)
-        (string_bytes words.certificate) (map string_bytes words.recipes.items) words.times) quiet
-        (record { before = O.contents output.old; after = O.contents output.new })
-        (record { before = E.contents errors.old; after = E.contents errors.new }) result }
-{
-    let cleared = clear_desks(
-        alloc,
-        documents,
-        &words.desks,
-        &words.cell,
-        &words.certificate,
-        &words.recipes,
-    );
-    match cleared {
-        Ok(served) => Course::ServesDesks {
-            served,
-            quiet,
-            journal: words.journal,
-            times: words.times,
-        },
-        Err(halt) => Course::Ends(announce(alloc, quiet, &halt, output, errors)),
-    }
-}
-
-/// Has a record audited over the set of the documents that the words name.
-fn audit<D: Documents, O: Write, E: Write>(
-    alloc: Global,
-    quiet: bool,
-    words: AuditWords,
-    documents: &D,
-    output: &mut O,
-    errors: &mut E,
-) -> Course
-    ensures { IsDone (D.gives documents.now) (audit words.beginning (string_bytes words.path) (source_of words.source)) quiet
-        (record { before = O.contents output.old; after = O.contents output.new })
-        (record { before = E.contents errors.old; after = E.contents errors.new }) result }
-{
-    match clear_source(alloc, documents, &words.source) {
-        Ok(set) => Course::Audits { set, audit: words },
-        Err(halt) => Course::Ends(announce(alloc, quiet, &halt, output, errors)),
-    }
-}
-
-/// Has a plant of the set of a source run.
-fn plant<D: Documents, O: Write, E: Write>(
-    alloc: Global,
-    quiet: bool,
-    source: &SetSource,
-    options: PlantOptions,
-    documents: &D,
-    output: &mut O,
-    errors: &mut E,
-) -> Course
-    ensures { IsDone (D.gives documents.now) (plant (source_of source.now) options.batches options.ticks options.ring) quiet
-        (record { before = O.contents output.old; after = O.contents output.new })
-        (record { before = E.contents errors.old; after = E.contents errors.new }) result }
-{
-    match clear_source(alloc, documents, source) {
-        Ok(set) => Course::Plants { set, options },
-        Err(halt) => Course::Ends(announce(alloc, quiet, &halt, output, errors)),
-    }
-}
-
-/// Has the set of a source served with comments in the record.
-fn remark<D: Documents, O: Write, E: Write>(
-    alloc: Global,
-    quiet: bool,
-    source: &SetSource,
-    comments: Comments,
-    documents: &D,
-    output: &mut O,
-    errors: &mut E,
-) -> Course
-    ensures { IsDone (D.gives documents.now) (remark (source_of source.now) comments.echo comments.times) quiet
-        (record { before = O.contents output.old; after = O.contents output.new })
-        (record { before = E.contents errors.old; after = E.contents errors.new }) result }
-{
-    match clear_source(alloc, documents, source) {
-        Ok(set) => Course::Remarks {
-            set,
-            quiet,
-            comments,
-        },
-        Err(halt) => Course::Ends(announce(alloc, quiet, &halt, output, errors)),
-    }
-}
-
-/// Has the set of documents served with a journal in the file at the path.
-fn serve_with_journal<D: Documents, O: Write, E: Write>(
-    alloc: Global,
-    quiet: bool,
-    path: String,
-    cell: &str,
-    certificate: &str,
-    recipes: &[String],
-    comments: Comments,
-    documents: &D,
-    output: &mut O,
-    errors: &mut E,
-) -> Course
-    ensures { IsDone (D.gives documents.now) (keep (string_bytes path) cell.now certificate.now (map string_bytes recipes.now) comments.echo comments.times) quiet
-        (record { before = O.contents output.old; after = O.contents output.new })
-        (record { before = E.contents errors.old; after = E.contents errors.new }) result }
-{
-    match clear_digested(alloc, documents, cell, certificate, recipes) {
-        Ok(digested) => Course::Keeps {
-            digested,
-            quiet,
-            path,
-            comments,
-        },
-        Err(halt) => Course::Ends(announce(alloc, quiet, &halt, output, errors)),
     }
 }
 
@@ -377,7 +270,7 @@ fn refuse<O: Write, E: Write>(
 {
     match write_out(output, refusal.text.as_bytes()) {
         Ok(()) => {
-            write_sentence(alloc, quiet, &refusal.sentence, errors);
+            write_sentences(alloc, quiet, slice::from_ref(refusal), errors);
             refusal.kind.status()
         }
         Err(error) => unwritten(errors, error),
