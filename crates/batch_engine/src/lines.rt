@@ -16,7 +16,8 @@ use crate::phase_number::{NO_PHASE, PhaseNumber, phase_by};
 use crate::step::Step;
 use batch_chart::Move;
 use batch_matrix::Command;
-use batch_recipe::{MAX_VALUES, Recipe, Values, Work, act_at};
+use batch_recipe::{Kind, LabelTable, MAX_VALUES, Recipe, Values, Work, act_at};
+use batch_set::LinkedRecipe;
 use batch_text::Name;
 
 /// The values of these names, each looked for at its position first; the entries after them mean nothing.
@@ -31,6 +32,16 @@ fn values_of(names: &[Name], positions: [usize; MAX_VALUES], values: &Values) ->
             .unwrap_or(0);
     }
     handed
+}
+
+/// The positions at which a batch has the values that the phase of an act of this kind is handed, as hints.
+fn handed_positions(own: &LinkedRecipe, kind: Kind) -> [usize; MAX_VALUES] {
+    match kind {
+        Kind::Act(LabelTable::Phases, step) => {
+            own.handed.get(step).copied().unwrap_or([0; MAX_VALUES])
+        }
+        _ => [0; MAX_VALUES],
+    }
 }
 
 /// The values that the phase of a phase step is handed; the entries after them mean nothing.
@@ -123,13 +134,14 @@ impl Control {
         let own = &set.recipes[usize::from(batch.recipe)];
         let recipe = self.cleared.recipe(batch.recipe);
         let entry = &recipe.outline.entries[usize::from(node)];
+        let positions = handed_positions(own, entry.kind);
         Line::Start {
             batch: batch.number,
             recipe: batch.recipe,
             node,
             unit,
             phase,
-            values: handed(recipe, own.positions(entry.kind), node, &batch.values),
+            values: handed(recipe, positions, node, &batch.values),
         }
     }
 

@@ -119,16 +119,6 @@ impl LinkedRecipe {
         }
     }
 
-    /// The positions at which a batch has the values that the phase of the act of this kind is handed, as hints.
-    pub fn positions(&self, kind: Kind) -> [usize; MAX_VALUES] {
-        match kind {
-            Kind::Act(LabelTable::Phases, step) => {
-                self.handed.get(step).copied().unwrap_or([0; MAX_VALUES])
-            }
-            _ => [0; MAX_VALUES],
-        }
-    }
-
     /// The number of the phase that the phase step with this number runs, among those that the unit offers. None where it doesn't
     /// offer it.
     // claim: phases by number
