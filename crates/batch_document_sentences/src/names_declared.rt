@@ -86,17 +86,17 @@ impl Entry<'_> {
         meant_or_known(self.alloc, name, names_of(self.alloc, self.document, kinds))
     }
 
-    /// Says which name of the table occurs twice.
+    /// Says which name of the table occurs twice. As in the reader, the names of tables come before those in lists.
     pub(crate) fn duplicate(self) -> Result<Wrong<'static>, AllocError> {
-        if let Some(name) = listed_twice(self.table, "reports") {
-            return self.twice("reports", name);
-        }
         let name = self.text_at("name");
         match first_named(self.document, namesakes_of(&self.spot.kind), name) {
             Some(first) if first != self.spot => {
                 return Wrong::with("name", self.namesake_said(name, first));
             }
             _ => {}
+        }
+        if let Some(name) = listed_twice(self.table, "reports") {
+            return self.twice("reports", name);
         }
         match listed_twice(self.table, "reserves") {
             Some(name) => self.twice("reserves", name),
