@@ -1,7 +1,7 @@
 """The list of definitions that each promise reaches, as docs/DEFINITIONS.md has it, and its summary in docs/PROOF.md."""
 from itertools import groupby
 
-from reach import PROMISES, files_of, lines_of, reached_by_promise, used_first
+from reach import HEADLINE, PROMISES, files_of, lines_of, reached_by_promise, used_first
 from sources import specs
 
 
@@ -39,7 +39,7 @@ def counted(found):
 
 def headline():
     """The sentences of docs/PROOF.md on the headline's reach."""
-    found = reached_by_promise(tuple(PROMISES[-1][1]))
+    found = reached_by_promise(tuple(dict(PROMISES)[HEADLINE]))
     records = reached_by_promise(("batch_safety::records_are_safe",))
     own = sorted({it.name for it in found if it.crate == "batch_engine"})
     none = [it for it in UNBELIEVED if not any(said.crate == it for said in found)]

@@ -4,6 +4,7 @@ from functools import cache
 from contracts import is_public_type, said_by_sources
 from sources import Definition, TOP, said_by_definitions, specs
 
+HEADLINE = "The headline: a run of the program"
 # Each promise with the functions whose contracts state it.
 PROMISES = [
     ("Every record of a cleared set is safe", ["batch_safety::records_are_safe", "batch_safety::cleared_runs_safely"]),
@@ -18,7 +19,7 @@ PROMISES = [
         "clean_lines_agree", "clean_lines_serve_alike", "no_want_is_well", "serving_agrees", "told_is_recovered", "transcripts_are_safe",
         "transcripts_are_whole", "transcripts_leave_nobody_in_vain", "transcripts_settle", "want_is_not_told",
         "clean_line_rows", "comment_rows", "held_rows", "unfinished_rows", "piece_limit_is_fixed")]),
-    ("The headline: a run of the program", ["batch_program::serving_is_safe", "batch_program::run_program"]),
+    (HEADLINE, ["batch_program::serving_is_safe", "batch_program::run_program"]),
     ("The program's other laws", ["batch_program::" + it for it in (
         "remarked_serving_is_safe", "journalled_serving_is_safe", "desks_are_safe", "desks_are_kept", "audits_are_true",
         "certificates_are_kept", "plants_are_complete")]),

@@ -53,8 +53,8 @@ need_at t k i = slice_index_or (step_at t k).needs i no_need
 abbrev pub phase_at : Tree → ℕ → Phase
 phase_at t k = phase_in (task_at t k)
 
-abbrev pub name_at : Tree → ℕ → Name
-name_at t k = name_in (task_at t k)
+abbrev pub task_name_at : Tree → ℕ → Name
+task_name_at t k = name_in (task_at t k)
 
 -- the names of unit and phase of a phase step
 abbrev pub phase_names : Task → Option (Name × Name)

@@ -70,7 +70,7 @@ module _ (c : ClearedSet) (recipe : ℕ) (r : Recipe) (at : slice_get c.recipes 
     place-told k =
         ap Names.node_place (node-is k) ∙ place-alike (bound_to c recipe units) r.acts k ∙ ap Names.node_place (node-bound k) ∙ place-seen (nodes_of (tree_at c recipe units)) k
 
-    pub name-told : (k : ℕ) → Names.chart_act_name_at c recipe k ≡ Tree.name_at (tree_at c recipe units) k
+    pub name-told : (k : ℕ) → Names.chart_act_name_at c recipe k ≡ Tree.task_name_at (tree_at c recipe units) k
     name-told k = ap Names.name_of (node-is k) ∙ name-alike (bound_to c recipe units) r.acts k ∙ ap Names.name_of (node-bound k) ∙ name-seen (nodes_of (tree_at c recipe units)) k
 
     pub handed-told : (k : ℕ) → Names.handed_at c recipe k ≡ (Tree.phase_at (tree_at c recipe units) k).handed

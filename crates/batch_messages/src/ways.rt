@@ -1,7 +1,7 @@
 //! The ways from acts up to their procedures.
 ghost use Rattle.std.specs.Iterator.{at_most};
 
-use batch_recipe::{Act, MAX_NODES, Recipe, act_at, place_at};
+use batch_recipe::{Act, MAX_NODES, Recipe, act_at, place_number};
 use std::alloc::{AllocError, Global};
 
 /// The nodes on the way from a node up to the procedure, the node's own first.
@@ -55,7 +55,7 @@ pub(crate) fn acts_to<'a>(
 /// The place of the node.
 pub(crate) fn place_said(alloc: Global, recipe: &Recipe, node: u16) -> Result<String, AllocError> {
     let mut place = String::new(alloc);
-    for number in (0..MAX_NODES).map_while(|depth| place_at(recipe, node, depth)) {
+    for number in (0..MAX_NODES).map_while(|depth| place_number(recipe, node, depth)) {
         let dot = if place.is_empty() { "" } else { "." };
         write!(place, "{dot}{number}")?;
     }

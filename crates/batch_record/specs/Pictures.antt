@@ -6,8 +6,8 @@ use Rattle.batch_record.specs.declared.shape.Anchor.TheVariants.{Start, Middle, 
 use Rattle.batch_record.specs.declared.shape.Grid.{Grid}
 use Rattle.batch_record.specs.declared.shape.Label.{Label}
 use Rattle.batch_record.specs.declared.shape.Block.{Block}
-use Rattle.batch_record.specs.declared.shape.Shape.{Shape}
-use Rattle.batch_record.specs.declared.shape.Shape.TheVariants as shape
+use Rattle.batch_record.specs.declared.shape.PictureShape.{PictureShape}
+use Rattle.batch_record.specs.declared.shape.PictureShape.TheVariants as shape
 use Rattle.batch_record.specs.declared.picture.Picture.{Picture}
 
 -- a line between two points
@@ -64,7 +64,7 @@ frame_text block =
 abbrev pub bar_text : Block → List ℕ
 bar_text block = title_text block ++ (area_text block ++ frame_text block)
 
-abbrev pub shape_text : Shape → List ℕ
+abbrev pub shape_text : PictureShape → List ℕ
 shape_text (shape.Grid grid) = grid_text grid
 shape_text (shape.Label label) = label_text label
 shape_text (shape.Block block) = bar_text block

@@ -11,7 +11,7 @@ use crate::memory::NoMemory;
 use crate::read::phase_with;
 use crate::status::Status;
 use crate::told::{Claim, PhaseStep};
-use crate::word::{is_plain_place, plain_number, read_units, state_of};
+use crate::word::{is_plain_place, plain_number, read_units, state_of_word};
 use crate::words::Words;
 use batch_matrix::State;
 use batch_text::is_name;
@@ -143,7 +143,7 @@ fn read_batch(mut arguments: Words<'_>) -> Option<Row<'_>>
     if arguments.next().is_some() {
         return None;
     }
-    let state = state_of(state)?;
+    let state = state_of_word(state)?;
     let number = plain_number(number)?;
     let size = plain_number(size)?;
     if is_name(recipe) {
@@ -194,6 +194,6 @@ fn read_live(mut arguments: Words<'_>) -> Option<Row<'_>>
         return None;
     }
     let step = phase_with(number, place, unit, phase)?;
-    let state = state_of(state)?;
+    let state = state_of_word(state)?;
     Some(Row::Runs { step, state })
 }

@@ -3,7 +3,7 @@ use crate::axis::{Axis, LENGTH};
 use crate::bars::Bar;
 use crate::lanes::Lanes;
 use crate::picture::Picture;
-use crate::shape::{Anchor, Block, Grid, Label, Shape};
+use crate::shape::{Anchor, Block, Grid, Label, PictureShape};
 use crate::timeline::{Resource, Timeline};
 use std::alloc::{AllocError, Global};
 
@@ -53,7 +53,7 @@ struct Sheet {
     left: u64,
     /// The end of the last row.
     end: u64,
-    shapes: Vec<Shape>,
+    shapes: Vec<PictureShape>,
 }
 
 /// The picture of the timeline: units first, each with its lanes.
@@ -174,7 +174,7 @@ impl Sheet {
             .top
             .saturating_add((spot.lane as u64).saturating_mul(LANE));
         let width = spot.to.saturating_sub(spot.from);
-        self.shapes.push(Shape::Block(Block {
+        self.shapes.push(PictureShape::Block(Block {
             left,
             top,
             width,
@@ -193,7 +193,7 @@ impl Sheet {
     }
 
     fn put_grid(&mut self, left: u64, top: u64, right: u64, bottom: u64) -> Result<(), AllocError> {
-        self.shapes.push(Shape::Grid(Grid {
+        self.shapes.push(PictureShape::Grid(Grid {
             left,
             top,
             right,
@@ -209,7 +209,7 @@ impl Sheet {
         anchor: Anchor,
         text: String,
     ) -> Result<(), AllocError> {
-        self.shapes.push(Shape::Label(Label {
+        self.shapes.push(PictureShape::Label(Label {
             left,
             base,
             anchor,

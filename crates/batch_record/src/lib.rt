@@ -37,7 +37,7 @@ pub use picture_reading::{RecordFault, draw_record};
 pub use read::{phase_with, read_out};
 pub use record_line::{NoRecordLine, read_record_line};
 pub use rows::{other_lines, out_lines};
-pub use shape::{Anchor, Block, Grid, Label, Shape};
+pub use shape::{Anchor, Block, Grid, Label, PictureShape};
 pub use status::Status;
 pub use status_laws::{lines_tell_their_outs, tales_are_modelled};
 pub use status_reading::{StatusFault, read_status};
@@ -45,5 +45,5 @@ pub use status_rows::{told_blocks, told_lines};
 pub use told::{
     Begun, Claim, Created, Ended, Passed, PhaseStep, RecordedOut, Refused, Reported, Sent, Started,
 };
-pub use word::{is_plain_place, plain_number, state_of};
+pub use word::{is_plain_place, plain_number, state_of_word};
 pub use words::Words;

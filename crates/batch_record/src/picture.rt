@@ -3,7 +3,7 @@ ghost use Rattle.std.specs.Prelude.{Some};
 ghost use Rattle.std.specs.List.{flat_map};
 ghost use Rattle.batch_record.specs.Pictures.{ground_text, svg_head, pattern_text, picture_text, shape_text};
 
-use crate::shape::Shape;
+use crate::shape::PictureShape;
 use std::fmt;
 
 /// A picture of so many points, in which a later shape covers an earlier one. Its text is SVG.
@@ -11,7 +11,7 @@ use std::fmt;
 pub struct Picture {
     pub width: u64,
     pub height: u64,
-    pub shapes: Vec<Shape>,
+    pub shapes: Vec<PictureShape>,
 }
 
 impl fmt::Display for Picture {
@@ -81,7 +81,7 @@ impl fmt::Display for Pattern {
 /// Shapes, one after the other.
 #[derive(Clone, Copy)]
 struct Shapes<'a> {
-    of: &'a [Shape],
+    of: &'a [PictureShape],
 }
 
 impl<'a> fmt::Display for Shapes<'a> {

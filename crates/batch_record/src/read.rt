@@ -8,7 +8,7 @@ use crate::pairs::{are_plain_values, are_role_pairs};
 use crate::told::{
     Begun, Claim, Created, Ended, Passed, PhaseStep, RecordedOut, Refused, Reported, Sent, Started,
 };
-use crate::word::{is_plain_place, plain_number, read_need, state_of};
+use crate::word::{is_plain_place, plain_number, read_need, state_of_word};
 use crate::words::Words;
 use batch_matrix::State;
 use batch_text::is_name;
@@ -239,7 +239,7 @@ fn state_alone(word: &[u8], mut others: Words<'_>) -> Option<State>
     if others.next().is_some() {
         return None;
     }
-    state_of(word)
+    state_of_word(word)
 }
 
 fn refused_formula<'a>(cause: &'a [u8], mut others: Words<'a>) -> Option<Refused<'a>>
@@ -333,7 +333,7 @@ fn read_batch(mut arguments: Words<'_>) -> Option<(u64, State)>
     if arguments.next().is_some() {
         return None;
     }
-    let state = state_of(state)?;
+    let state = state_of_word(state)?;
     let batch = plain_number(batch)?;
     Some((batch, state))
 }
@@ -384,7 +384,7 @@ fn read_report(mut arguments: Words<'_>) -> Option<Reported<'_>>
         return None;
     }
     let word = word_of_report(word)?;
-    let state = state_of(state)?;
+    let state = state_of_word(state)?;
     let batch = plain_number(batch)?;
     if is_name(unit) && is_name(phase) && is_plain_place(place) {
         Some(Reported {

@@ -193,21 +193,21 @@ fn colour(hue: u64) -> &'static str
 
 /// A shape of a picture.
 #[derive(Drop)]
-pub enum Shape {
+pub enum PictureShape {
     Grid(Grid),
     Label(Label),
     Block(Block),
 }
 
-impl fmt::Display for Shape {
+impl fmt::Display for PictureShape {
     // claim: text of a picture
     ghost output = { λ shape. Some (shape_text shape) };
 
     fn fmt<W: fmt::Write>(&self, f: &mut fmt::Formatter<W>) -> fmt::Result {
         match self {
-            Shape::Grid(grid) => write!(f, "{grid}"),
-            Shape::Label(label) => write!(f, "{label}"),
-            Shape::Block(block) => write!(f, "{block}"),
+            PictureShape::Grid(grid) => write!(f, "{grid}"),
+            PictureShape::Label(label) => write!(f, "{label}"),
+            PictureShape::Block(block) => write!(f, "{block}"),
         }
     }
 }

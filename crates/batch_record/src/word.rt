@@ -99,7 +99,7 @@ pub fn parted(word: &[u8], at: u8) -> (&[u8], &[u8])
 }
 
 /// The state that the word names.
-pub fn state_of(word: &[u8]) -> Option<State>
+pub fn state_of_word(word: &[u8]) -> Option<State>
     ensures { result ≡ state_of_word word.now }
 {
     if word == b"idle".as_slice() {

@@ -6,11 +6,11 @@ ghost use Rattle.batch_serve.specs.Lines.{is_feed};
 ghost use Rattle.batch_serve.specs.Waits.{IsAccount, nothing_waits};
 ghost use Rattle.batch_serve.specs.Told.{AreDesksTold, IsDeskTold};
 
+use crate::desk_queue::DeskQueue;
 use crate::desks_fault::CutReason;
 use crate::line::DeskLine;
 use crate::run::Run;
 use crate::sorting::is_due;
-use crate::waiting::Waiting;
 use batch_text::Name;
 use std::alloc::Global;
 
@@ -20,7 +20,7 @@ pub struct ServedDesk {
     /// The unit of which it sees the starts and sends. A console, which has none, sees each move.
     pub unit: Option<Name>,
     /// The lines queued for it.
-    pub waiting: Waiting<DeskLine>,
+    pub waiting: DeskQueue<DeskLine>,
     /// Why the server cut it, if it did.
     pub why: Option<CutReason>,
 }
@@ -35,7 +35,7 @@ impl ServedDesk {
     {
         ServedDesk {
             unit,
-            waiting: Waiting::new(alloc, lag),
+            waiting: DeskQueue::new(alloc, lag),
             why: None,
         }
     }

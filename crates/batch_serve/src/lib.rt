@@ -4,6 +4,7 @@
 mod answering;
 mod clean_lines;
 mod desk;
+mod desk_queue;
 mod desk_server;
 mod desks_fault;
 mod desks_laws;
@@ -29,12 +30,12 @@ mod run;
 mod serving;
 mod set;
 mod sorting;
-mod waiting;
 mod writing;
 
 pub use answering::answer_line;
 pub use clean_lines::CleanReader;
 pub use desk::ServedDesk;
+pub use desk_queue::DeskQueue;
 pub use desk_server::DeskServer;
 pub use desks_fault::{CutReason, TurnFault};
 pub use desks_laws::{
@@ -65,5 +66,4 @@ pub use run::Run;
 pub use serving::serve;
 pub use set::serve_set;
 pub use sorting::is_due;
-pub use waiting::Waiting;
 pub use writing::write_lines;

@@ -3,7 +3,7 @@ ghost use Rattle.std.specs.Prelude.{◌≡◌, ◌++◌, IfOk, OnOk, string_byte
 ghost use Rattle.batch_recipe.specs.Texts.{dot_text};
 ghost use Rattle.batch_verdicts.specs.VerdictTexts.{place_text_at};
 
-use batch_recipe::{MAX_NODES, Recipe, place_at};
+use batch_recipe::{MAX_NODES, Recipe, place_number};
 use std::alloc::{AllocError, Global};
 
 /// The place of the node with this number; of a number that is no node's it is empty.
@@ -13,7 +13,7 @@ pub(crate) fn place_text(alloc: Global, recipe: &Recipe, node: u16) -> Result<St
     let mut text = String::new(alloc);
     // No place has more numbers than there are nodes.
     for depth in 0..MAX_NODES {
-        match place_at(recipe, node, depth) {
+        match place_number(recipe, node, depth) {
             Some(number) => push_number(&mut text, depth, number)?,
             None => break,
         }

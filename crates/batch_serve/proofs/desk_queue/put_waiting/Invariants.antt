@@ -1,7 +1,7 @@
 use Rattle.std.proofs.Common.{◌≡◌, ◌≤◌, ◌++◌, length}
 use Rattle.std.specs.VecDeque.{deque_len}
 use Rattle.rtrb.specs.Ring.{sent, SameProducer}
-use Rattle.batch_serve.proofs.waiting.put_waiting.Given as goal
+use Rattle.batch_serve.proofs.desk_queue.put_waiting.Given as goal
 
 -- the lines in the ring and the rest behind them are the lines from before
 abbrev pub invariant-loop-ring : goal.invariant-loop-ring

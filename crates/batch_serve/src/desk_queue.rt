@@ -11,13 +11,13 @@ use std::marker::Model;
 /// The lines queued for a desk, in order. If more are queued than may be, the desk can be cut: its queue is emptied, and stays empty.
 /// So a slow desk takes no more memory than these lines.
 #[derive(Drop)]
-pub struct Waiting<T: Drop> {
+pub struct DeskQueue<T: Drop> {
     lines: VecDeque<T>,
     lag: usize,
     cut: bool,
 }
 
-impl<T: Drop> Model for Waiting<T> {
+impl<T: Drop> Model for DeskQueue<T> {
     ghost use Rattle.std.specs.Prelude.{◌≡◌, length, true};
     ghost use Rattle.batch_serve.specs.Waits.{Waits};
 
@@ -28,14 +28,14 @@ impl<T: Drop> Model for Waiting<T> {
     ghost invariant = { λ w. w.cut ≡ true → length w.lines.items ≡ 0 };
 }
 
-impl<T: Drop> Waiting<T> {
+impl<T: Drop> DeskQueue<T> {
     /// The empty queue of a desk for which so many lines may be queued.
     // claim: new desks
-    pub fn new(alloc: Global, lag: usize) -> Waiting<T>
+    pub fn new(alloc: Global, lag: usize) -> DeskQueue<T>
         ensures value { result ≡ nothing_waits lag }
         ensures account { IsAccount [] [] result }
     {
-        Waiting {
+        DeskQueue {
             lines: VecDeque::new(alloc),
             lag,
             cut: false,
