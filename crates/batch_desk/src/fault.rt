@@ -2,7 +2,7 @@
 use thiserror::Error;
 
 /// Why a call of the hub failed.
-#[derive(Clone, Copy, Debug, PartialEq, Eq, Error)]
+#[derive(Clone, Copy, Debug, Error)]
 pub enum HubFault {
     /// There was no memory. No event is lost; the work that was done stays.
     #[error("out of memory")]

@@ -1,7 +1,7 @@
 //! The outcome of a turn of the hub.
 
 /// The outcome of a turn of the hub.
-#[derive(Clone, Copy, PartialEq, Eq)]
+#[derive(Clone, Copy)]
 pub enum Turned {
     /// No move was possible, and no event was taken.
     Idle,

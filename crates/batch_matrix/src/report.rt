@@ -17,7 +17,7 @@ pub enum Report {
 }
 
 /// The outcome of an accepted report for its phase.
-#[derive(Clone, Copy, PartialEq, Eq)]
+#[derive(Clone, Copy)]
 pub enum ReportOutcome {
     /// The phase has ended.
     Ended,
