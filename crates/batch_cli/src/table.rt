@@ -31,7 +31,7 @@ static COMMANDS: [CommandText<'static>; 10] = [
             Argument(
                 "dot",
                 Form::Flag,
-                "Draws what is asked for after what, for Graphviz, what lies on a circle in red",
+                "Draws which resource is asked for after which, for Graphviz, and circles in red",
             ),
             Argument(
                 "write",
@@ -76,7 +76,7 @@ static COMMANDS: [CommandText<'static>; 10] = [
             Argument(
                 "times",
                 Form::Flag,
-                "Writes `# at MILLISECONDS` before the answers to what one read brought",
+                "Writes `# at MILLISECONDS` before the answers to the lines of one read",
             ),
         ],
     },
@@ -93,26 +93,26 @@ static COMMANDS: [CommandText<'static>; 10] = [
             Argument(
                 "times",
                 Form::Flag,
-                "Writes `# at MILLISECONDS` before the answers to what the desks sent in a turn",
+                "Writes `# at MILLISECONDS` before the answers to the desks' lines of a turn",
             ),
             QUIET,
         ],
     },
     CommandText {
         name: "status",
-        about: "Prints what a record tells: batches, who holds, who waits, and live phases",
+        about: "Prints the state at the end of a record: batches, who holds, who waits, and live phases",
         example: STATUS_HELP,
         arguments: &[WRITTEN_RECORD],
     },
     CommandText {
         name: "draw",
-        about: "Draws what a record tells, as SVG: who held which resource when, and who waited for it",
+        about: "Draws a record as SVG: who held which resource when, and who waited for it",
         example: DRAW_HELP,
         arguments: &[WRITTEN_RECORD],
     },
     CommandText {
         name: "audit",
-        about: "Compares a record with what event lines from standard input come to",
+        about: "Compares a record with that of the event lines from standard input",
         example: AUDIT_HELP,
         arguments: &[
             Argument("RECORD", Form::Word, "The record"),
@@ -166,7 +166,7 @@ static COMMANDS: [CommandText<'static>; 10] = [
     },
     CommandText {
         name: "explain",
-        about: "Prints what a code of a refusal means, and what to do; without a code, what all mean",
+        about: "Prints the meaning of a refusal's code and its remedy; without a code, the meanings of all",
         example: EXPLAIN_HELP,
         arguments: &[Argument(
             "CODE",

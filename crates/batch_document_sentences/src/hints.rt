@@ -7,7 +7,7 @@ use std::alloc::{AllocError, Global};
 /// The words that may precede a bracket.
 const FORMS: [&str; 4] = ["seq", "par", "sel", "loop"];
 
-const ONE_AFTER_ANOTHER: &str = "; what comes one after the other stands in seq(..)";
+const ONE_AFTER_ANOTHER: &str = "; steps that come one after the other stand in seq(..)";
 
 const SEL: &str = "; a choice is sel(CONDITION: CHART, else: CHART)";
 
@@ -78,7 +78,8 @@ fn sign_hint(inside: Inside<'_>, word: &str, rest: &str) -> &'static str {
             "; values compare by <, <=, =, /=, >= and >"
         }
         (Some('&' | '|'), _) if may_compare(inside) => CONDITION,
-        (Some('&' | '|'), _) => "; what runs side by side stands in par(..), a choice in sel(..)",
+        (Some('&' | '|'), _) =>
+            "; steps that run side by side stand in par(..), a choice in sel(..)",
         (Some('-'), _) => "; numbers aren't negative",
         (Some('.'), behind) if is_in_number(word, behind) => "; numbers are whole",
         (Some('.'), _) => "; a label is the name of one act, and has no dot",
@@ -130,7 +131,7 @@ fn form_hint(inside: Inside<'_>, rest: &str) -> &'static str {
         ("loop", 0, _) | ("loop", 1, Some(')')) => LOOP,
         ("loop", 1, _) => CONDITION,
         ("loop", _, Some(',')) if !piece.is_empty() => {
-            "; a loop has one chart, and what comes one after the other stands in seq(..)"
+            "; a loop has one chart, and steps that come one after the other stand in seq(..)"
         }
         ("sel", _, Some(')')) => SEL,
         ("sel", _, Some(',')) if !has_colon => SEL,

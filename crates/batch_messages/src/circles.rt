@@ -88,7 +88,7 @@ pub(crate) fn advice_said(set: Set<'_>, edges: &[Edge]) -> Result<String, AllocE
     match edges.first() {
         Some(edge) if edge.earlier == edge.later => String::from_str(
             set.alloc,
-            "; what is held can't be asked for again, and one need of it is enough",
+            "; a resource that is held can't be asked for again, and one need of it is enough",
         ),
         _ if edges.len() > MOST_LOOKED_AT => Ok(String::new(set.alloc)),
         _ => {

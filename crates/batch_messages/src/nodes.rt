@@ -178,7 +178,7 @@ impl<'a> Subject<'a> {
             let other = others.find(|(name, branch)| **name == **phase && branch < second);
             if let Some((_, first)) = other {
                 return format!(in alloc;
-                    "two branches of this `par` run the same phase, {phase}: number {first} and number {second}; what runs one after the other stands in seq(..)"
+                    "two branches of this `par` run the same phase, {phase}: number {first} and number {second}; phases that run one after the other stand in seq(..)"
                 );
             }
         }

@@ -75,7 +75,7 @@ impl<'a> Subject<'a> {
             format!(in alloc; "; {written} is a class, and needs are of units by their own names")
         } else if let Some(unit) = unit_with(self.cell, written) {
             format!(in alloc;
-                "; {written} is a module of the unit {unit}, which is what can be needed"
+                "; {written} is a module of the unit {unit}, and only the unit can be needed"
             )
         } else {
             meant_or_known(alloc, written.text(), resource_names(alloc, self.cell))

@@ -17,7 +17,7 @@ pub fn explanations() -> [Explanation; 52]
 static EXPLANATIONS: [Explanation; 52] = [
     Explanation {
         code: "A1",
-        meaning: "the line with this number is the first of the record that differs from what the lines that were sent come to",
+        meaning: "the line with this number is the first of the record that differs from the record of the lines that were sent",
         remedy: "look at that line, which may have been left out, doubled, moved or changed; or give the lines, the documents and the certificate of this record",
     },
     Explanation {
@@ -53,7 +53,7 @@ static EXPLANATIONS: [Explanation; 52] = [
     Explanation {
         code: "D5",
         meaning: "a label, a unit, a role, a value, an output or a unit procedure is named that the document doesn't declare, or a desk's unit is none of the cell's",
-        remedy: "declare it, or name what is declared; capitals count",
+        remedy: "declare it, or use a declared name; capitals count",
     },
     Explanation {
         code: "D6",
@@ -98,11 +98,11 @@ static EXPLANATIONS: [Explanation; 52] = [
     Explanation {
         code: "E5",
         meaning: "the phase's state doesn't accept the report",
-        remedy: "report what the phase was sent last, or `done`; the state of the phase is told behind the code",
+        remedy: "report the answer to the command that the phase was sent last, or `done`; the state of the phase is told behind the code",
     },
     Explanation {
         code: "E6",
-        meaning: "the report sets what is no output, one output twice, or a value above 10^12",
+        meaning: "the report sets a name that is no output, one output twice, or a value above 10^12",
         remedy: "set outputs that the recipe declares, each once",
     },
     Explanation {
@@ -203,7 +203,7 @@ static EXPLANATIONS: [Explanation; 52] = [
     Explanation {
         code: "V3",
         meaning: "a line of the certificate names no resource; or a need is no resource of the cell, a unit procedure's unit is no unit, or its role has a class that no unit is of",
-        remedy: "name what the cell document declares, capitals count; or give a unit the class",
+        remedy: "use a name that the cell document declares, capitals count; or give a unit the class",
     },
     Explanation {
         code: "V4",
@@ -258,7 +258,7 @@ static EXPLANATIONS: [Explanation; 52] = [
     Explanation {
         code: "W3",
         meaning: "there is an argument too many",
-        remedy: "leave out what follows the arguments of the line",
+        remedy: "leave out the words behind the arguments of the line",
     },
     Explanation {
         code: "W4",

@@ -48,7 +48,7 @@ pub const OUT_OF_MEMORY: &str = "out of memory";
 
 /// The message if texts have no code.
 const UNKNOWN_CODE: &str =
-    "there is no such code; a code is what stands behind `refused`, a letter and a number, as D5, E11 or V4, and `batchd explain` lists all";
+    "there is no such code; a code stands behind `refused`, a letter and a number, as D5, E11 or V4, and `batchd explain` lists all";
 
 /// The output can't be written, for this reason.
 #[derive(Debug, Error, Drop)]
