@@ -156,14 +156,14 @@ fn serve_holding_at<
             (outcome_of_flush(told), disk, writer)
         }
         Err(fault) => {
-            let fault = keep_fault(fault, held.has_want());
+            let fault = stop_reason(fault, held.has_want());
             (Err(fault), disk, held.into_inner())
         }
     }
 }
 
 /// Why the run stopped: a writer that wanted memory refused the answers.
-fn keep_fault(fault: ServeFault, has_want: bool) -> KeepFault
+fn stop_reason(fault: ServeFault, has_want: bool) -> KeepFault
     ensures memory { IsTrue has_want → result ≡ KeepFault.Memory }
     ensures serve { IsFalse has_want → result ≡ KeepFault.Serve fault }
 {

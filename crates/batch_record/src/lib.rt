@@ -41,7 +41,7 @@ pub use shape::{Anchor, Block, Grid, Label, PictureShape};
 pub use status::Status;
 pub use status_laws::{lines_tell_their_outs, tales_are_modelled};
 pub use status_reading::{StatusFault, read_status};
-pub use status_rows::{told_blocks, told_lines};
+pub use status_rows::{state_block_rows, state_line_rows};
 pub use told::{
     Begun, Claim, Created, Ended, Passed, PhaseStep, RecordedOut, Refused, Reported, Sent, Started,
 };
