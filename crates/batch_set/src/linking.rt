@@ -99,6 +99,7 @@ fn link_act(
     ensures { IfOk result (λ needs. needs.items ≡ needs_linked cell.now recipe.now act.now) }
 {
     let mut needs = link_unit(alloc, cell, recipe, act)?;
+    needs.reserve(act.needs.len())?;
     for name in &act.reserves {
         let source = reserved(cell, recipe, name);
         needs.push(LinkedNeed { source, units: 1 })?;
