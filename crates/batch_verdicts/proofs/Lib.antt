@@ -1,5 +1,4 @@
 pub mod FirstBytes
-pub mod NextRecipe
 pub mod RecipeTexts
 pub mod HaltCauses
 pub mod CertificateRanks

@@ -10,6 +10,7 @@ pub mod DeskSets
 pub mod Every
 pub mod Looking
 pub mod Running
+pub mod Courses
 pub mod Statuses
 pub mod DemoDocuments
 pub mod Requests

@@ -5,8 +5,8 @@ ghost use Rattle.batch_reader.specs.DeskUnits.{HaveUnits};
 ghost use Rattle.batch_reader.specs.DesksDocument.{IsDesksDocument};
 ghost use Rattle.batch_verdicts.specs.DeskSets.{AreDesksCleared, HaltsAtDesks, HaltsDesks, ReadsDesks, RefusesDesks, RefusesUnits};
 
-use crate::digested::{Digested, clear_behind, read_cell};
-use crate::documents::Documents;
+use crate::digested::Digested;
+use crate::documents::{Documents, clear_behind, read_cell};
 use crate::judging::document_halt;
 use crate::refusal::Halt;
 use batch_cell::Cell;
@@ -45,10 +45,13 @@ pub fn clear_desks<D: Documents>(
     let mut digest = DocumentsDigest::new();
     let cell = read_cell(alloc, documents, cell, &mut digest)?;
     look_up_units(alloc, path, &read.bytes, &read.desks, &cell)?;
-    let digested = clear_behind(alloc, documents, cell, digest, certificate, recipes)?;
+    let set = clear_behind(alloc, documents, cell, certificate, recipes, &mut digest)?;
     Ok(DeskSet {
         desks: read.desks,
-        digested,
+        digested: Digested {
+            set,
+            documents: digest.digits(),
+        },
     })
 }
 

@@ -1,19 +1,11 @@
 //! Reading the documents of a set of which a journal is kept.
-ghost use Rattle.std.specs.Prelude.{◌≡◌, ◌++◌, ◌∷◌, [], ℕ, List, map, IfOk, IfErr, string_bytes};
-ghost use Rattle.batch_journal.specs.Digests.{HasTaken};
-ghost use Rattle.batch_verdicts.specs.Digested.{AreDigested, ReadsCellText, ReadsRecipeText};
-ghost use Rattle.batch_verdicts.specs.Taking.{AreTaken};
-ghost use Rattle.batch_verdicts.specs.Halting.{HaltsAtCell, HaltsAtRecipe, HaltsAtRecipes, HaltsClearing};
-ghost use Rattle.batch_verdicts.specs.Reading.{ReadsCell};
+ghost use Rattle.std.specs.Prelude.{map, IfOk, IfErr, string_bytes};
+ghost use Rattle.batch_verdicts.specs.Digested.{AreDigested};
+ghost use Rattle.batch_verdicts.specs.Halting.{HaltsClearing};
 
-use crate::documents::{Documents, read_certificate};
-use crate::judging::{clear_recipes, parse_cell, parse_recipe};
+use crate::documents::{Documents, clear_behind, read_cell};
 use crate::refusal::Halt;
-use batch_cell::Cell;
 use batch_journal::{Digits, DocumentsDigest};
-use batch_messages::RecipeSource;
-use batch_reader::MAX_DOCUMENT_LEN;
-use batch_recipe::Recipe;
 use batch_verify::Cleared;
 use std::alloc::Global;
 
@@ -40,83 +32,9 @@ pub fn clear_digested<D: Documents>(
 {
     let mut digest = DocumentsDigest::new();
     let cell = read_cell(alloc, documents, cell, &mut digest)?;
-    clear_behind(alloc, documents, cell, digest, certificate, recipes)
-}
-
-/// Clears the recipes for a cell that is read already, and whose text alone the digest has taken.
-pub(crate) fn clear_behind<D: Documents>(
-    alloc: Global,
-    documents: &D,
-    cell: Cell,
-    mut digest: DocumentsDigest,
-    certificate: &str,
-    recipes: &[String],
-) -> Result<Digested, Halt>
-    ensures cell { IfOk result (λ digested. digested.set.cell ≡ cell) }
-    ensures digested { IfOk result (λ digested. (path text : List ℕ) → ReadsCellText (D.gives documents.now) path text cell → HasTaken digest (text ∷ [])
-        → AreDigested (D.gives documents.now) path certificate.now (map string_bytes recipes.now) digested.set digested.documents.text) }
-    ensures halted { IfErr result (λ halt. (path : List ℕ) → ReadsCell (D.gives documents.now) path cell
-        → HaltsClearing (D.gives documents.now) path certificate.now (map string_bytes recipes.now) halt) }
-{
-    let certificate = read_certificate(alloc, documents, certificate)?;
-    let mut sources = Vec::new(alloc);
-    let recipes = read_recipes(alloc, documents, recipes, &mut sources, &mut digest)?;
-    let set = clear_recipes(alloc, cell, recipes, &sources, &certificate)?;
+    let set = clear_behind(alloc, documents, cell, certificate, recipes, &mut digest)?;
     Ok(Digested {
         set,
         documents: digest.digits(),
     })
-}
-
-pub(crate) fn read_cell<D: Documents>(
-    alloc: Global,
-    documents: &D,
-    path: &str,
-    digest: &mut DocumentsDigest,
-) -> Result<Cell, Halt>
-    ensures read { IfOk result (λ cell. (text : List ℕ) × ReadsCellText (D.gives documents.now) path.now text cell
-        × ((texts : List (List ℕ)) → HasTaken digest.old texts → HasTaken digest.new (texts ++ text ∷ []))) }
-    ensures halted { IfErr result (HaltsAtCell (D.gives documents.now) path.now) }
-{
-    let bytes = documents.read(alloc, path, MAX_DOCUMENT_LEN)?;
-    let cell = parse_cell(alloc, path, &bytes)?;
-    digest.push_document(&bytes);
-    Ok(cell)
-}
-
-/// The recipe of the document at the path. Appends its source to those of the recipes before it.
-fn read_recipe<D: Documents>(
-    alloc: Global,
-    documents: &D,
-    path: &str,
-    sources: &mut Vec<RecipeSource>,
-    digest: &mut DocumentsDigest,
-) -> Result<Recipe, Halt>
-    ensures read { IfOk result (λ recipe. (text : List ℕ) × ReadsRecipeText (D.gives documents.now) path.now text recipe
-        × ((texts : List (List ℕ)) → HasTaken digest.old texts → HasTaken digest.new (texts ++ text ∷ []))) }
-    ensures halted { IfErr result (HaltsAtRecipe (D.gives documents.now) path.now) }
-{
-    let bytes = documents.read(alloc, path, MAX_DOCUMENT_LEN)?;
-    let recipe = parse_recipe(alloc, path, &bytes)?;
-    digest.push_document(&bytes);
-    sources.push(RecipeSource::of(alloc, path, &bytes)?)?;
-    Ok(recipe)
-}
-
-fn read_recipes<D: Documents>(
-    alloc: Global,
-    documents: &D,
-    paths: &[String],
-    sources: &mut Vec<RecipeSource>,
-    digest: &mut DocumentsDigest,
-) -> Result<Vec<Recipe>, Halt>
-    ensures read { IfOk result (λ recipes. AreTaken (D.gives documents.now) (map string_bytes paths.now) recipes.items digest.old digest.new) }
-    ensures halted { IfErr result (HaltsAtRecipes (D.gives documents.now) (map string_bytes paths.now)) }
-{
-    let mut recipes = Vec::new(alloc);
-    for path in paths {
-        let recipe = read_recipe(alloc, documents, path.as_str(), sources, digest)?;
-        recipes.push(recipe)?;
-    }
-    Ok(recipes)
 }

@@ -1,13 +1,17 @@
 //! Reading and judging documents, each before the next.
-ghost use Rattle.std.specs.Prelude.{◌≡◌, ℕ, List, [], Option, map, IfOk, IfErr, string_bytes};
-ghost use Rattle.batch_verdicts.specs.Halting.{HaltsAtCell, HaltsAtCertificate, HaltsAtDocuments, HaltsAtRecipe, HaltsAtRecipes, HaltsClearing, HaltsReading, HaltsVerifying};
-ghost use Rattle.batch_verdicts.specs.Reading.{AreCleared, AreRead, AreReadWarned, IsUnread, ReadsCell, ReadsCertificate, ReadsRecipe, ReadsRecipes, VerifiesDocuments, ShowsDocuments};
+ghost use Rattle.std.specs.Prelude.{◌≡◌, ◌++◌, ◌∷◌, ℕ, List, [], Option, map, IfOk, IfErr, string_bytes};
+ghost use Rattle.batch_verdicts.specs.Digested.{ReadsCellText, ReadsRecipeText};
+ghost use Rattle.batch_verdicts.specs.Halting.{HaltsAtCell, HaltsAtCertificate, HaltsAtDocuments, HaltsAtRecipe, HaltsAtRecipes, HaltsClearing, HaltsVerifying};
+ghost use Rattle.batch_verdicts.specs.Looking.{AreAllRead};
+ghost use Rattle.batch_verdicts.specs.Reading.{AreCleared, IsUnread, ReadsCell, ReadsCertificate, VerifiesDocuments, ShowsDocuments};
 ghost use Rattle.batch_verdicts.specs.Saying.{IsWarned};
+ghost use Rattle.batch_verdicts.specs.Taking.{AreTaken, ClearsBehind};
 
 use crate::judging::{
     MAX_CERTIFICATE_LEN, clear_recipes, parse_cell, parse_certificate, parse_recipe,
 };
 use crate::refusal::Halt;
+use crate::taking::{NoTaker, TextTaker};
 use crate::warnings::warn;
 use batch_cell::Cell;
 use batch_messages::RecipeSource;
@@ -38,26 +42,19 @@ pub(crate) struct CellDocuments {
     pub(crate) sources: Vec<RecipeSource>,
 }
 
-/// Reads the documents, and warns of them. The first that can't be read or is refused ends it.
-pub(crate) fn read_warned<D: Documents, E: Write>(
+/// Reads the documents. The first that can't be read or is refused ends it.
+pub(crate) fn read_each<D: Documents>(
     alloc: Global,
     documents: &D,
     cell: &str,
     recipes: &[String],
-    quiet: bool,
-    errors: &mut E,
 ) -> Result<CellDocuments, Halt>
-    ensures read { IfOk result (λ read. AreReadWarned (D.gives documents.now) (IsWarned quiet (E.contents errors.old) (E.contents errors.new))
-        cell.now (map string_bytes recipes.now) read.cell read.recipes.items) }
-    ensures halted { IfErr result (λ halt. HaltsAtDocuments (D.gives documents.now) cell.now (map string_bytes recipes.now) halt
-        × IsWarned quiet (E.contents errors.old) (E.contents errors.new) []) }
+    ensures read { IfOk result (λ read. AreAllRead (D.gives documents.now) cell.now (map string_bytes recipes.now) read.cell read.recipes.items) }
+    ensures halted { IfErr result (HaltsAtDocuments (D.gives documents.now) cell.now (map string_bytes recipes.now)) }
 {
-    let path = cell;
-    let cell = read_cell(alloc, documents, path)?;
-    let paths = recipes;
+    let cell = read_cell(alloc, documents, cell, &mut NoTaker)?;
     let mut sources = Vec::new(alloc);
-    let recipes = read_recipes(alloc, documents, paths, &mut sources)?;
-    warn(alloc, quiet, path, &cell, paths, &recipes, errors);
+    let recipes = read_recipes(alloc, documents, recipes, &mut sources, &mut NoTaker)?;
     Ok(CellDocuments {
         cell,
         recipes,
@@ -83,9 +80,13 @@ pub fn verify_documents<D: Documents, E: Write>(
     ensures halted { IfErr result (HaltsVerifying (D.gives documents.now) (IsWarned quiet (E.contents errors.old) (E.contents errors.new))
         cell.now certificate.now (map string_bytes recipes.now)) }
 {
-    let set = read_set(alloc, documents, cell, certificate, recipes)?;
-    warn(alloc, quiet, cell, &set.cell, recipes, &set.recipes, errors);
-    clear_recipes(alloc, set.cell, set.recipes, &set.sources, &set.certificate)?;
+    let (path, paths) = (cell, recipes);
+    let cell = read_cell(alloc, documents, path, &mut NoTaker)?;
+    let certificate = read_certificate(alloc, documents, certificate)?;
+    let mut sources = Vec::new(alloc);
+    let recipes = read_recipes(alloc, documents, paths, &mut sources, &mut NoTaker)?;
+    warn(alloc, quiet, path, &cell, paths, &recipes, errors);
+    clear_recipes(alloc, cell, recipes, &sources, &certificate)?;
     Ok(String::from_str(alloc, "accepted\n")?)
 }
 
@@ -101,10 +102,8 @@ pub fn show_documents<D: Documents>(
     ensures verdict { IfOk result (λ text. ShowsDocuments (D.gives documents.now) cell.now (map string_bytes recipes.now) (string_bytes text)) }
     ensures halted { IfErr result (HaltsAtDocuments (D.gives documents.now) cell.now (map string_bytes recipes.now)) }
 {
-    read_cell(alloc, documents, cell)?;
-    let mut sources = Vec::new(alloc);
-    let recipes = read_recipes(alloc, documents, recipes, &mut sources)?;
-    Ok(show_recipes(alloc, &recipes)?)
+    let read = read_each(alloc, documents, cell, recipes)?;
+    Ok(show_recipes(alloc, &read.recipes)?)
 }
 
 /// The set that the documents at these paths make, cleared by the certificate among them: the one way from documents to a set
@@ -123,59 +122,45 @@ pub fn clear_documents<D: Documents>(
     // claim: no set
     ensures halted { IfErr result (HaltsClearing (D.gives documents.now) cell.now certificate.now (map string_bytes recipes.now)) }
 {
-    let read = read_set(alloc, documents, cell, certificate, recipes)?;
-    clear_recipes(
-        alloc,
-        read.cell,
-        read.recipes,
-        &read.sources,
-        &read.certificate,
-    )
+    let cell = read_cell(alloc, documents, cell, &mut NoTaker)?;
+    clear_behind(alloc, documents, cell, certificate, recipes, &mut NoTaker)
 }
 
-/// The contents of the documents of a set.
-#[derive(Drop)]
-struct DocumentSet {
-    cell: Cell,
-    certificate: Certificate,
-    recipes: Vec<Recipe>,
-    /// The files and lines of the acts of the recipes.
-    sources: Vec<RecipeSource>,
-}
-
-fn read_set<D: Documents>(
+/// Clears the recipes for a cell that is read already. The taker takes their texts.
+pub(crate) fn clear_behind<D: Documents, T: TextTaker>(
     alloc: Global,
     documents: &D,
-    cell: &str,
+    cell: Cell,
     certificate: &str,
     recipes: &[String],
-) -> Result<DocumentSet, Halt>
-    ensures read { IfOk result (λ set. AreRead (D.gives documents.now) cell.now certificate.now (map string_bytes recipes.now)
-        set.cell set.certificate.ranks.items set.recipes.items) }
-    ensures halted { IfErr result (HaltsReading (D.gives documents.now) cell.now certificate.now (map string_bytes recipes.now)) }
+    taker: &mut T,
+) -> Result<Cleared, Halt>
+    ensures cleared { IfOk result (λ set. ClearsBehind T.has_taken (D.gives documents.now) certificate.now (map string_bytes recipes.now) cell set
+        taker.old taker.new) }
+    ensures halted { IfErr result (λ halt. (path : List ℕ) → ReadsCell (D.gives documents.now) path cell
+        → HaltsClearing (D.gives documents.now) path certificate.now (map string_bytes recipes.now) halt) }
 {
-    let cell = read_cell(alloc, documents, cell)?;
     let certificate = read_certificate(alloc, documents, certificate)?;
     let mut sources = Vec::new(alloc);
-    let recipes = read_recipes(alloc, documents, recipes, &mut sources)?;
-    Ok(DocumentSet {
-        cell,
-        certificate,
-        recipes,
-        sources,
-    })
+    let recipes = read_recipes(alloc, documents, recipes, &mut sources, taker)?;
+    clear_recipes(alloc, cell, recipes, &sources, &certificate)
 }
 
-pub(crate) fn read_cell<D: Documents>(
+/// The cell of the document at the path, whose text the taker takes.
+pub(crate) fn read_cell<D: Documents, T: TextTaker>(
     alloc: Global,
     documents: &D,
     path: &str,
+    taker: &mut T,
 ) -> Result<Cell, Halt>
-    ensures read { IfOk result (ReadsCell (D.gives documents.now) path.now) }
+    ensures read { IfOk result (λ cell. (text : List ℕ) × ReadsCellText (D.gives documents.now) path.now text cell
+        × ((texts : List (List ℕ)) → T.has_taken taker.old texts → T.has_taken taker.new (texts ++ text ∷ []))) }
     ensures halted { IfErr result (HaltsAtCell (D.gives documents.now) path.now) }
 {
     let bytes = documents.read(alloc, path, MAX_DOCUMENT_LEN)?;
-    parse_cell(alloc, path, &bytes)
+    let cell = parse_cell(alloc, path, &bytes)?;
+    taker.take_text(&bytes);
+    Ok(cell)
 }
 
 pub(crate) fn read_certificate<D: Documents>(
@@ -190,34 +175,38 @@ pub(crate) fn read_certificate<D: Documents>(
     parse_certificate(alloc, path, &text)
 }
 
-/// The recipe of the document at the path. Appends its source to those of the recipes before it.
-pub(crate) fn read_recipe<D: Documents>(
+/// The recipe of the document at the path. Appends its source to those of the recipes before it; the taker takes its text.
+pub(crate) fn read_recipe<D: Documents, T: TextTaker>(
     alloc: Global,
     documents: &D,
     path: &str,
     sources: &mut Vec<RecipeSource>,
+    taker: &mut T,
 ) -> Result<Recipe, Halt>
-    ensures read { IfOk result (ReadsRecipe (D.gives documents.now) path.now) }
+    ensures read { IfOk result (λ recipe. (text : List ℕ) × ReadsRecipeText (D.gives documents.now) path.now text recipe
+        × ((texts : List (List ℕ)) → T.has_taken taker.old texts → T.has_taken taker.new (texts ++ text ∷ []))) }
     ensures halted { IfErr result (HaltsAtRecipe (D.gives documents.now) path.now) }
 {
     let bytes = documents.read(alloc, path, MAX_DOCUMENT_LEN)?;
     let recipe = parse_recipe(alloc, path, &bytes)?;
+    taker.take_text(&bytes);
     sources.push(RecipeSource::of(alloc, path, &bytes)?)?;
     Ok(recipe)
 }
 
-pub(crate) fn read_recipes<D: Documents>(
+pub(crate) fn read_recipes<D: Documents, T: TextTaker>(
     alloc: Global,
     documents: &D,
     paths: &[String],
     sources: &mut Vec<RecipeSource>,
+    taker: &mut T,
 ) -> Result<Vec<Recipe>, Halt>
-    ensures read { IfOk result (λ recipes. ReadsRecipes (D.gives documents.now) (map string_bytes paths.now) recipes.items) }
+    ensures read { IfOk result (λ recipes. AreTaken T.has_taken (D.gives documents.now) (map string_bytes paths.now) recipes.items taker.old taker.new) }
     ensures halted { IfErr result (HaltsAtRecipes (D.gives documents.now) (map string_bytes paths.now)) }
 {
     let mut recipes = Vec::new(alloc);
     for path in paths {
-        let recipe = read_recipe(alloc, documents, path.as_str(), sources)?;
+        let recipe = read_recipe(alloc, documents, path.as_str(), sources, taker)?;
         recipes.push(recipe)?;
     }
     Ok(recipes)

@@ -1,5 +1,5 @@
 //! Judging all documents, and reporting all refusals of them.
-ghost use Rattle.std.specs.Prelude.{◌≡◌, ◌≤◌, ℕ, true, List, OnOk, IfOk, IfErr, length, map, string_bytes};
+ghost use Rattle.std.specs.Prelude.{◌≡◌, ◌≤◌, ℕ, List, OnOk, IfOk, IfErr, length, map, string_bytes};
 ghost use Rattle.batch_model.specs.declared.limits.TheConstants.{MAX_RECIPES};
 ghost use Rattle.batch_verdicts.specs.Every.{AreRulesKept, AreRulesRefused, HaltsAtAll, HaltsBefore, HaltsChecking, HaltsDrawing, IsOneUnread, RefusesRules};
 ghost use Rattle.batch_verdicts.specs.Judging.{fault_kind};
@@ -9,10 +9,11 @@ ghost use Rattle.batch_verdicts.specs.Saying.{IsWarned};
 ghost use Rattle.batch_verdicts.specs.VerdictTexts.{fault_text};
 ghost use Rattle.batch_verdicts.specs.declared.refusal.Halt.TheVariants.{Memory};
 
-use crate::documents::{CellDocuments, Documents, read_cell, read_recipe, read_warned};
+use crate::documents::{CellDocuments, Documents, read_cell, read_each, read_recipe};
 use crate::drawing::draw_recipes;
 use crate::judging::{check_recipes, fault_halt};
 use crate::refusal::{DocumentRefusal, Halt};
+use crate::taking::NoTaker;
 use crate::texts::fault_text;
 use crate::warnings::warn;
 use batch_cell::Cell;
@@ -83,28 +84,11 @@ fn read_asked<D: Documents, E: Write>(
     ensures halted { IfErr result (HaltsBefore all (D.gives documents.now) (IsWarned quiet (E.contents errors.old) (E.contents errors.new))
         cell.now (map string_bytes recipes.now)) }
 {
-    if all {
-        read_sound(alloc, documents, cell, recipes, quiet, errors)
+    let read = if all {
+        read_all(alloc, documents, cell, recipes)?
     } else {
-        read_warned(alloc, documents, cell, recipes, quiet, errors)
-    }
-}
-
-/// Reads all documents, warns of them, and searches for rules that the recipes break.
-fn read_sound<D: Documents, E: Write>(
-    alloc: Global,
-    documents: &D,
-    cell: &str,
-    recipes: &[String],
-    quiet: bool,
-    errors: &mut E,
-) -> Result<CellDocuments, Halt>
-    ensures read { IfOk result (λ read. IsReadAsked true (D.gives documents.now) (IsWarned quiet (E.contents errors.old) (E.contents errors.new))
-        cell.now (map string_bytes recipes.now) read.cell read.recipes.items) }
-    ensures halted { IfErr result (HaltsBefore true (D.gives documents.now) (IsWarned quiet (E.contents errors.old) (E.contents errors.new))
-        cell.now (map string_bytes recipes.now)) }
-{
-    let read = read_all(alloc, documents, cell, recipes)?;
+        read_each(alloc, documents, cell, recipes)?
+    };
     warn(
         alloc,
         quiet,
@@ -114,7 +98,9 @@ fn read_sound<D: Documents, E: Write>(
         &read.recipes,
         errors,
     );
-    find_broken_rules(alloc, &read.cell, &read.recipes, &read.sources)?;
+    if all {
+        find_broken_rules(alloc, &read.cell, &read.recipes, &read.sources)?;
+    }
     Ok(read)
 }
 
@@ -155,7 +141,7 @@ fn cell_or_refusal<D: Documents>(
     ensures looked { IfOk result (λ cell. IsCellLooked (D.gives documents.now) path.now refusals.old.items cell refusals.new.items) }
     ensures halted { IfErr result (IsUnread (D.gives documents.now) path.now) }
 {
-    match read_cell(alloc, documents, path) {
+    match read_cell(alloc, documents, path, &mut NoTaker) {
         Ok(cell) => Ok(Some(cell)),
         Err(Halt::Refused(refusal)) => {
             refusals.push(refusal)?;
@@ -209,7 +195,7 @@ fn add_recipe<D: Documents>(
         looked.new.recipes.items looked.new.refusals.items) }
     ensures halted { IfErr result (IsUnread (D.gives documents.now) path.now) }
 {
-    match read_recipe(alloc, documents, path, &mut looked.sources) {
+    match read_recipe(alloc, documents, path, &mut looked.sources, &mut NoTaker) {
         Ok(recipe) => looked.recipes.push(recipe)?,
         Err(Halt::Refused(refusal)) => looked.refusals.push(refusal)?,
         Err(Halt::Unread(text)) => return Err(Halt::Unread(text)),

@@ -1,7 +1,8 @@
 //! Running the program's commands.
-ghost use Rattle.std.specs.Prelude.{◌≡◌, IfErr, IfOk, OnOk, map, option_map, string_bytes};
-ghost use Rattle.batch_cli.specs.CommandLine.{audit, judgement_of, keep, plant, remark, request_of, serve, serve_desks, source_of};
+ghost use Rattle.std.specs.Prelude.{◌≡◌, Bool, IfErr, IfOk, OnOk, map, string_bytes};
+ghost use Rattle.batch_cli.specs.CommandLine.{judgement_of, request_of, source_of};
 ghost use Rattle.std.specs.Io.KnownBytes.{Appends};
+ghost use Rattle.batch_verdicts.specs.Courses.{IsCourse, IsSilentCourse};
 ghost use Rattle.batch_verdicts.specs.Requests.{HaltsDemo, HaltsJudgement, HaltsSource, IsDemoSet, IsSetOf, IsVerdictText};
 ghost use Rattle.std.specs.List.{flat_map, list_any};
 ghost use Rattle.batch_verdicts.specs.Judging.{is_for_memory};
@@ -15,17 +16,17 @@ use crate::digested::clear_digested;
 use crate::documents::{Documents, clear_documents, show_documents, verify_documents};
 use crate::every::{check_asked, draw_asked};
 use crate::refusal::{DocumentRefusal, Halt};
-use crate::saying::{write_sentence, write_sentences};
+use crate::saying::write_sentences;
 use batch_cli::{
-    AuditWords, CommandFault, CommandWords, Comments, DeskWords, Judgement, PlantOptions,
-    SetSource, Subcommand, parse,
+    AuditWords, CommandFault, CommandWords, DeskWords, Judgement, PlantOptions, SetSource,
+    Subcommand, parse,
 };
 use batch_messages::explain;
 use batch_verify::Cleared;
 use std::alloc::{AllocError, Global};
 use std::fmt::Display;
-use std::io;
 use std::io::Write;
+use std::{io, slice};
 use thiserror::Error;
 
 /// The exit status if the requested text is printed.
@@ -95,199 +96,111 @@ fn run_command<D: Documents, O: Write, E: Write>(
         (record { before = E.contents errors.old; after = E.contents errors.new }) result }
 {
     let quiet = words.quiet;
-    match words.command {
-        Subcommand::Judge(judgement) => {
-            match run_judgement(alloc, documents, &judgement, quiet, errors) {
-                Ok(text) => Course::Ends(print(output, errors, &text, SUCCESS)),
-                Err(halt) => Course::Ends(announce(alloc, quiet, &halt, output, errors)),
-            }
-        }
-        Subcommand::Write { path, judgement } => {
-            match run_judgement(alloc, documents, &judgement, quiet, errors) {
-                Ok(text) => Course::Writes { path, text },
-                Err(halt) => Course::Ends(announce(alloc, quiet, &halt, output, errors)),
-            }
-        }
-        Subcommand::Serve(source) => serve(alloc, quiet, &source, documents, output, errors),
-        Subcommand::Remark { source, comments } => {
-            remark(alloc, quiet, &source, comments, documents, output, errors)
-        }
-        Subcommand::Keep {
-            journal,
-            cell,
-            certificate,
-            recipes,
-            comments,
-        } => serve_with_journal(
-            alloc,
-            quiet,
-            journal,
-            &cell,
-            &certificate,
-            &recipes,
-            comments,
-            documents,
-            output,
-            errors,
-        ),
-        Subcommand::ServeDesks(words) => serve_desks(
-            alloc, quiet, words, documents, output, errors,
-        ),
-        Subcommand::Status { path } => Course::Reads { path },
-        Subcommand::Picture { path } => Course::Draws { path },
-        Subcommand::Audit(words) => audit(alloc, quiet, words, documents, output, errors),
-        Subcommand::Plant { source, options } => {
-            plant(alloc, quiet, &source, options, documents, output, errors)
-        }
-        Subcommand::Explain { texts } => {
-            Course::Ends(print_codes(alloc, &texts, output, errors))
-        }
-    }
-}
-
-/// Has the set of a source served.
-fn serve<D: Documents, O: Write, E: Write>(
-    alloc: Global,
-    quiet: bool,
-    source: &SetSource,
-    documents: &D,
-    output: &mut O,
-    errors: &mut E,
-) -> Course
-    ensures { IsDone (D.gives documents.now) (serve (source_of source.now)) quiet
-        (record { before = O.contents output.old; after = O.contents output.new })
-        (record { before = E.contents errors.old; after = E.contents errors.new }) result }
-{
-    match clear_source(alloc, documents, source) {
-        Ok(set) => Course::Serves { set, quiet },
+    match course_of(alloc, words.command, quiet, documents, output, errors) {
+        Ok(course) => course,
         Err(halt) => Course::Ends(announce(alloc, quiet, &halt, output, errors)),
     }
 }
 
-/// Has desks served over the set of the documents that the words name, with a journal or without one.
-fn serve_desks<D: Documents, O: Write, E: Write>(
+/// The course of the command.
+fn course_of<D: Documents, O: Write, E: Write>(
     alloc: Global,
+    command: Subcommand,
     quiet: bool,
-    words: DeskWords,
     documents: &D,
     output: &mut O,
     errors: &mut E,
-) -> Course
-    ensures { IsDone (D.gives documents.now) (serve_desks (option_map string_bytes words.journal) (string_bytes words.desks) (string_bytes words.cell)
-        (string_bytes words.certificate) (map string_bytes words.recipes.items) words.times) quiet
+) -> Result<Course, Halt>
+    ensures { IsCourse (D.gives documents.now) (request_of command) quiet
         (record { before = O.contents output.old; after = O.contents output.new })
         (record { before = E.contents errors.old; after = E.contents errors.new }) result }
 {
-    let cleared = clear_desks(
+    match command {
+        Subcommand::Judge(judgement) => {
+            let text = run_judgement(alloc, documents, &judgement, quiet, errors)?;
+            Ok(Course::Ends(print(output, errors, &text, SUCCESS)))
+        }
+        Subcommand::Write { path, judgement } => {
+            let text = run_judgement(alloc, documents, &judgement, quiet, errors)?;
+            Ok(Course::Writes { path, text })
+        }
+        Subcommand::Serve(source) => {
+            let set = clear_source(alloc, documents, &source)?;
+            Ok(Course::Serves { set, quiet })
+        }
+        Subcommand::Remark { source, comments } => Ok(Course::Remarks {
+            set: clear_source(alloc, documents, &source)?,
+            quiet,
+            comments,
+        }),
+        Subcommand::Keep {
+            journal: path,
+            cell,
+            certificate,
+            recipes,
+            comments,
+        } => Ok(Course::Keeps {
+            digested: clear_digested(alloc, documents, &cell, &certificate, &recipes)?,
+            quiet,
+            path,
+            comments,
+        }),
+        Subcommand::ServeDesks(words) => serve_desks(alloc, documents, words, quiet),
+        Subcommand::Status { path } => Ok(Course::Reads { path }),
+        Subcommand::Picture { path } => Ok(Course::Draws { path }),
+        Subcommand::Audit(words) => audit(alloc, documents, words),
+        Subcommand::Plant { source, options } => plant(alloc, documents, &source, options),
+        Subcommand::Explain { texts } => {
+            Ok(Course::Ends(print_codes(alloc, &texts, output, errors)))
+        }
+    }
+}
+
+/// Clears the set over which desks are to be served.
+fn serve_desks<D: Documents>(
+    alloc: Global,
+    documents: &D,
+    words: DeskWords,
+    quiet: bool,
+) -> Result<Course, Halt>
+    ensures { IsSilentCourse (D.gives documents.now) (request_of (Subcommand.ServeDesks words)) quiet result }
+{
+    let served = clear_desks(
         alloc,
         documents,
         &words.desks,
         &words.cell,
         &words.certificate,
         &words.recipes,
-    );
-    match cleared {
-        Ok(served) => Course::ServesDesks {
-            served,
-            quiet,
-            journal: words.journal,
-            times: words.times,
-        },
-        Err(halt) => Course::Ends(announce(alloc, quiet, &halt, output, errors)),
-    }
+    )?;
+    Ok(Course::ServesDesks {
+        served,
+        quiet,
+        journal: words.journal,
+        times: words.times,
+    })
 }
 
-/// Has a record audited over the set of the documents that the words name.
-fn audit<D: Documents, O: Write, E: Write>(
-    alloc: Global,
-    quiet: bool,
-    words: AuditWords,
-    documents: &D,
-    output: &mut O,
-    errors: &mut E,
-) -> Course
-    ensures { IsDone (D.gives documents.now) (audit words.beginning (string_bytes words.path) (source_of words.source)) quiet
-        (record { before = O.contents output.old; after = O.contents output.new })
-        (record { before = E.contents errors.old; after = E.contents errors.new }) result }
+/// Clears the set over which a record is to be audited.
+fn audit<D: Documents>(alloc: Global, documents: &D, words: AuditWords) -> Result<Course, Halt>
+    ensures { (quiet : Bool) → IsSilentCourse (D.gives documents.now) (request_of (Subcommand.Audit words)) quiet result }
 {
-    match clear_source(alloc, documents, &words.source) {
-        Ok(set) => Course::Audits { set, audit: words },
-        Err(halt) => Course::Ends(announce(alloc, quiet, &halt, output, errors)),
-    }
+    let set = clear_source(alloc, documents, &words.source)?;
+    Ok(Course::Audits { set, audit: words })
 }
 
-/// Has a plant of the set of a source run.
-fn plant<D: Documents, O: Write, E: Write>(
+/// Clears the set whose plant is to be run.
+fn plant<D: Documents>(
     alloc: Global,
-    quiet: bool,
+    documents: &D,
     source: &SetSource,
     options: PlantOptions,
-    documents: &D,
-    output: &mut O,
-    errors: &mut E,
-) -> Course
-    ensures { IsDone (D.gives documents.now) (plant (source_of source.now) options.batches options.ticks options.ring) quiet
-        (record { before = O.contents output.old; after = O.contents output.new })
-        (record { before = E.contents errors.old; after = E.contents errors.new }) result }
+) -> Result<Course, Halt>
+    ensures { (quiet : Bool) → IsSilentCourse (D.gives documents.now) (request_of (Subcommand.Plant source.now options)) quiet result }
 {
-    match clear_source(alloc, documents, source) {
-        Ok(set) => Course::Plants { set, options },
-        Err(halt) => Course::Ends(announce(alloc, quiet, &halt, output, errors)),
-    }
+    let set = clear_source(alloc, documents, source)?;
+    Ok(Course::Plants { set, options })
 }
-
-/// Has the set of a source served with comments in the record.
-fn remark<D: Documents, O: Write, E: Write>(
-    alloc: Global,
-    quiet: bool,
-    source: &SetSource,
-    comments: Comments,
-    documents: &D,
-    output: &mut O,
-    errors: &mut E,
-) -> Course
-    ensures { IsDone (D.gives documents.now) (remark (source_of source.now) comments.echo comments.times) quiet
-        (record { before = O.contents output.old; after = O.contents output.new })
-        (record { before = E.contents errors.old; after = E.contents errors.new }) result }
-{
-    match clear_source(alloc, documents, source) {
-        Ok(set) => Course::Remarks {
-            set,
-            quiet,
-            comments,
-        },
-        Err(halt) => Course::Ends(announce(alloc, quiet, &halt, output, errors)),
-    }
-}
-
-/// Has the set of documents served with a journal in the file at the path.
-fn serve_with_journal<D: Documents, O: Write, E: Write>(
-    alloc: Global,
-    quiet: bool,
-    path: String,
-    cell: &str,
-    certificate: &str,
-    recipes: &[String],
-    comments: Comments,
-    documents: &D,
-    output: &mut O,
-    errors: &mut E,
-) -> Course
-    ensures { IsDone (D.gives documents.now) (keep (string_bytes path) cell.now certificate.now (map string_bytes recipes.now) comments.echo comments.times) quiet
-        (record { before = O.contents output.old; after = O.contents output.new })
-        (record { before = E.contents errors.old; after = E.contents errors.new }) result }
-{
-    match clear_digested(alloc, documents, cell, certificate, recipes) {
-        Ok(digested) => Course::Keeps {
-            digested,
-            quiet,
-            path,
-            comments,
-        },
-        Err(halt) => Course::Ends(announce(alloc, quiet, &halt, output, errors)),
-    }
-}
-
 /// The output of a judgement. It warns of its documents unless quiet is asked for.
 fn run_judgement<D: Documents, E: Write>(
     alloc: Global,
@@ -377,7 +290,7 @@ fn refuse<O: Write, E: Write>(
 {
     match write_out(output, refusal.text.as_bytes()) {
         Ok(()) => {
-            write_sentence(alloc, quiet, &refusal.sentence, errors);
+            write_sentences(alloc, quiet, slice::from_ref(refusal), errors);
             refusal.kind.status()
         }
         Err(error) => unwritten(errors, error),

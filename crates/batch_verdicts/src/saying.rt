@@ -1,38 +1,15 @@
 //! The sentences for a person beside a verdict.
 ghost use Rattle.std.specs.Prelude.{◌≡◌, IfOk, string_bytes};
 ghost use Rattle.std.specs.List.{flat_map};
-ghost use Rattle.batch_verdicts.specs.Saying.{AreSaid, IsSaid, WritesFront, sentence_line};
+ghost use Rattle.batch_verdicts.specs.Saying.{AreSaid, WritesFront, sentence_line};
 
 use crate::refusal::DocumentRefusal;
-use batch_wording::Sentence;
 use std::alloc::{AllocError, Global};
 use std::io::Write;
 
-/// Writes the sentence of a refusal, unless quiet is asked for. If the line can't be written, the rest of it is left out.
-// claim: sentences on the errors
-pub(crate) fn write_sentence<E: Write>(
-    alloc: Global,
-    quiet: bool,
-    sentence: &Sentence,
-    errors: &mut E,
-)
-    ensures { IsSaid quiet sentence.now (E.contents errors.old) (E.contents errors.new) }
-{
-    if !quiet {
-        write_line(alloc, sentence, errors);
-    }
-}
-
-fn write_line<E: Write>(alloc: Global, sentence: &Sentence, errors: &mut E)
-    ensures { WritesFront (E.contents errors.old) (E.contents errors.new) (sentence_line sentence.now) }
-{
-    if let Ok(line) = format!(in alloc; "batchd: {}\n", sentence.text) {
-        write_and_flush(errors, &line);
-    }
-}
-
 /// Writes the sentences of the refusals, a line each, unless quiet is asked for. If there is no memory for the lines, they are left
 /// out; if they can't be written, the rest of them is.
+// claim: sentences on the errors
 pub(crate) fn write_sentences<E: Write>(
     alloc: Global,
     quiet: bool,
@@ -44,12 +21,6 @@ pub(crate) fn write_sentences<E: Write>(
     if quiet {
         return;
     }
-    write_lines(alloc, refusals, errors);
-}
-
-fn write_lines<E: Write>(alloc: Global, refusals: &[DocumentRefusal], errors: &mut E)
-    ensures { WritesFront (E.contents errors.old) (E.contents errors.new) (flat_map (λ r. sentence_line r.sentence) refusals.now) }
-{
     if let Ok(text) = lines_text(alloc, refusals) {
         write_and_flush(errors, &text);
     }
@@ -60,16 +31,9 @@ fn lines_text(alloc: Global, refusals: &[DocumentRefusal]) -> Result<String, All
 {
     let mut text = String::new(alloc);
     for refusal in refusals {
-        let line = line_of(alloc, &refusal.sentence)?;
-        text.push_str(&line)?;
+        writeln!(text, "batchd: {}", refusal.sentence.text)?;
     }
     Ok(text)
-}
-
-fn line_of(alloc: Global, sentence: &Sentence) -> Result<String, AllocError>
-    ensures { IfOk result (λ line. string_bytes line ≡ sentence_line sentence.now) }
-{
-    format!(in alloc; "batchd: {}\n", sentence.text)
 }
 
 /// Writes the line and flushes it. If it can't be written, the rest of it is left out.

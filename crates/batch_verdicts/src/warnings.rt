@@ -1,7 +1,7 @@
 //! Warnings on documents that are accepted.
 ghost use Rattle.std.specs.Prelude.{◌≡◌, IfOk, map, string_bytes};
-ghost use Rattle.batch_verdicts.specs.Saying.{IsWarned, WritesFront, message_line};
-ghost use Rattle.batch_verdicts.specs.WarningTexts.{lines_on, recipe_line, recipe_warnings_text, recipes_text, unit_line, units_text, warnings_text};
+ghost use Rattle.batch_verdicts.specs.Saying.{IsWarned};
+ghost use Rattle.batch_verdicts.specs.WarningTexts.{lines_on, recipe_warnings_text, recipes_text, units_text, warnings_text};
 ghost use Rattle.batch_messages.specs.WarningWords.{said_at};
 
 use crate::saying::write_and_flush;
@@ -27,22 +27,9 @@ pub(crate) fn warn<E: Write>(
     ensures { IsWarned quiet (E.contents errors.old) (E.contents errors.new)
         (warnings_text path.now cell.now (map string_bytes paths.now) recipes.now) }
 {
-    if !quiet {
-        write_warnings(alloc, path, cell, paths, recipes, errors);
+    if quiet {
+        return;
     }
-}
-
-fn write_warnings<E: Write>(
-    alloc: Global,
-    path: &str,
-    cell: &Cell,
-    paths: &[String],
-    recipes: &[Recipe],
-    errors: &mut E,
-)
-    ensures { WritesFront (E.contents errors.old) (E.contents errors.new)
-        (warnings_text path.now cell.now (map string_bytes paths.now) recipes.now) }
-{
     if let Ok(text) = warnings_text(alloc, path, cell, paths, recipes) {
         write_and_flush(errors, &text);
     }
@@ -68,17 +55,10 @@ fn units_text(alloc: Global, path: &str, cell: &Cell, units: &[usize]) -> Result
 {
     let mut text = String::new(alloc);
     for unit in units {
-        let line = unit_line(alloc, path, cell, *unit)?;
-        text.push_str(&line)?;
+        let sentence = unit_warning(alloc, path, cell, *unit)?;
+        writeln!(text, "batchd: {}", sentence.text)?;
     }
     Ok(text)
-}
-
-fn unit_line(alloc: Global, path: &str, cell: &Cell, unit: usize) -> Result<String, AllocError>
-    ensures { IfOk result (λ text. string_bytes text ≡ unit_line path.now cell.now unit) }
-{
-    let sentence = unit_warning(alloc, path, cell, unit)?;
-    message_line(alloc, &sentence.text)
 }
 
 fn recipes_text(alloc: Global, paths: &[String], recipes: &[Recipe]) -> Result<String, AllocError>
@@ -125,26 +105,8 @@ fn recipe_text(
 {
     let mut text = String::new(alloc);
     for warning in warnings {
-        let line = recipe_line(alloc, path, recipe, *warning)?;
-        text.push_str(&line)?;
+        let sentence = recipe_warning(alloc, path, recipe, *warning)?;
+        writeln!(text, "batchd: {}", sentence.text)?;
     }
     Ok(text)
-}
-
-fn recipe_line(
-    alloc: Global,
-    path: &str,
-    recipe: &Recipe,
-    warning: RecipeWarning,
-) -> Result<String, AllocError>
-    ensures { IfOk result (λ text. string_bytes text ≡ recipe_line path.now recipe.now warning) }
-{
-    let sentence = recipe_warning(alloc, path, recipe, warning)?;
-    message_line(alloc, &sentence.text)
-}
-
-fn message_line(alloc: Global, text: &str) -> Result<String, AllocError>
-    ensures { IfOk result (λ line. string_bytes line ≡ message_line text.now) }
-{
-    format!(in alloc; "batchd: {text}\n")
 }

@@ -1,9 +1,9 @@
 //! Graphs in the language of Graphviz.
-ghost use Rattle.std.specs.Prelude.{◌≡◌, ◌++◌, ◌&&◌, IfOk, nat_eq, string_bytes};
+ghost use Rattle.std.specs.Prelude.{◌≡◌, IfOk, string_bytes};
 ghost use Rattle.std.specs.List.{flat_map};
 ghost use Rattle.batch_check.specs.Edges.{has_pair};
 ghost use Rattle.batch_messages.specs.CircleSentence.{act_name};
-ghost use Rattle.batch_verdicts.specs.GraphTexts.{arrow_text, arrows_text, colour_of, graph_text, module_text, resources_text, shared_text, unit_box_text};
+ghost use Rattle.batch_verdicts.specs.GraphTexts.{arrows_text, colour_of, graph_text, module_text, resources_text, shared_text, unit_box_text};
 
 use crate::texts::nodes::{node_text, resource_name};
 use batch_cell::{Cell, Module, Shared, Unit};
@@ -49,16 +49,9 @@ fn units_text(alloc: Global, units: &[Unit]) -> Result<String, AllocError>
 {
     let mut text = String::new(alloc);
     for unit in units {
-        let more = unit_text(alloc, unit)?;
-        text.push_str(&more)?;
+        writeln!(text, "  \"{}\" [shape=box];", unit.name)?;
     }
     Ok(text)
-}
-
-fn unit_text(alloc: Global, unit: &Unit) -> Result<String, AllocError>
-    ensures { IfOk result (λ text. string_bytes text ≡ unit_box_text unit.now) }
-{
-    format!(in alloc; "  \"{}\" [shape=box];\n", unit.name)
 }
 
 fn modules_text(alloc: Global, modules: &[Module]) -> Result<String, AllocError>
@@ -86,17 +79,10 @@ fn all_shared_text(alloc: Global, shared: &[Shared]) -> Result<String, AllocErro
 {
     let mut text = String::new(alloc);
     for one in shared {
-        let more = shared_text(alloc, one)?;
-        text.push_str(&more)?;
+        let Shared { name, capacity } = one;
+        writeln!(text, "  \"{name}\" [label=\"{name}\\nunits: {capacity}\"];")?;
     }
     Ok(text)
-}
-
-fn shared_text(alloc: Global, shared: &Shared) -> Result<String, AllocError>
-    ensures { IfOk result (λ text. string_bytes text ≡ shared_text shared.now) }
-{
-    let Shared { name, capacity } = shared;
-    format!(in alloc; "  \"{name}\" [label=\"{name}\\nunits: {capacity}\"];\n")
 }
 
 fn arrows_text(
@@ -110,27 +96,17 @@ fn arrows_text(
 {
     let mut text = String::new(alloc);
     for edge in edges {
-        let arrow = arrow_text(alloc, cell, recipes, red, *edge)?;
-        text.push_str(&arrow)?;
+        let earlier = resource_name(cell, edge.earlier);
+        let later = resource_name(cell, edge.later);
+        let node = node_text(alloc, recipes, edge.recipe, edge.node)?;
+        let act = act_name(recipes, edge.recipe, edge.node);
+        let colour = colour_of(red, *edge);
+        writeln!(
+            text,
+            "  \"{earlier}\" -> \"{later}\" [label=\"{node}\\n{act}\"{colour}];"
+        )?;
     }
     Ok(text)
-}
-
-fn arrow_text(
-    alloc: Global,
-    cell: &Cell,
-    recipes: &[Recipe],
-    red: &[Edge],
-    edge: Edge,
-) -> Result<String, AllocError>
-    ensures { IfOk result (λ text. string_bytes text ≡ arrow_text (act_name recipes.now) cell.now recipes.now red.now edge) }
-{
-    let earlier = resource_name(cell, edge.earlier);
-    let later = resource_name(cell, edge.later);
-    let node = node_text(alloc, recipes, edge.recipe, edge.node)?;
-    let act = act_name(recipes, edge.recipe, edge.node);
-    let colour = colour_of(red, edge);
-    format!(in alloc; "  \"{earlier}\" -> \"{later}\" [label=\"{node}\\n{act}\"{colour}];\n")
 }
 
 /// The mark of an edge that is red.
@@ -143,11 +119,6 @@ fn colour_of(red: &[Edge], edge: Edge) -> &'static str
 fn is_on(red: &[Edge], edge: Edge) -> bool
     ensures { result ≡ has_pair red.now edge.earlier edge.later }
 {
-    red.iter().any(|on| joins_the_same(on, edge))
-}
-
-fn joins_the_same(one: &Edge, other: Edge) -> bool
-    ensures { result ≡ (nat_eq one.now.earlier other.earlier && nat_eq one.now.later other.later) }
-{
-    one.earlier == other.earlier && one.later == other.later
+    red.iter()
+        .any(|on| on.earlier == edge.earlier && on.later == edge.later)
 }

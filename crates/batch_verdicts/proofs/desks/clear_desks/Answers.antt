@@ -1,7 +1,8 @@
-use Rattle.std.proofs.Common.{[], inl, inr, subst, sym}
+use Rattle.std.proofs.Common.{inl, inr, subst, sym}
 use Rattle.std.proofs.lemmas.Result.{err_from_is_err_and}
 use Rattle.batch_cell.specs.{LookUps.units_of, declared.cell.Cell.Cell}
 use Rattle.batch_reader.specs.DeskUnits.{HaveUnits}
+use Rattle.batch_verdicts.proofs.RecipeTexts.{are_digested}
 use Rattle.batch_verdicts.proofs.desks.clear_desks.Goals as goal
 
 pub returns-in_err-read-clause-halted : goal.returns-in_err-read-clause-halted
@@ -20,17 +21,18 @@ returns-in_err-look_up_units-clause-halted g c =
     let cell = c.in_ok-cell.ensures.read in
     rw (p.1, p.2) (inr (c.in_ok-read.read.desks, c.in_ok-read.ensures.read, inr (inl (c.in_ok-cell.cell, (cell.0, cell.1.0, cell.1.1), c.in_err-look_up_units.ensures.refused))))
 
-pub returns-in_err-digested-clause-halted : goal.returns-in_err-digested-clause-halted
-returns-in_err-digested-clause-halted g c =
-    let p = err_from_is_err_and c.from_residual-in_err-digested.result c.from_residual-in_err-digested.ensures.1 in
+pub returns-in_err-set-clause-halted : goal.returns-in_err-set-clause-halted
+returns-in_err-set-clause-halted g c =
+    let p = err_from_is_err_and c.from_residual-in_err-set.result c.from_residual-in_err-set.ensures.1 in
     let cell = c.in_ok-cell.ensures.read in
-    rw (p.1, p.2) (inr (c.in_ok-read.read.desks, c.in_ok-read.ensures.read, inr (inr (c.in_err-digested.ensures.halted _ (cell.0, cell.1.0, cell.1.1)))))
+    rw (p.1, p.2) (inr (c.in_ok-read.read.desks, c.in_ok-read.ensures.read, inr (inr (c.in_err-set.ensures.halted _ (cell.0, cell.1.0, cell.1.1)))))
 
 pub returns-clause-set : goal.returns-clause-set
 returns-clause-set g c =
     let cell = c.in_ok-cell.ensures.read in
+    let set = c.in_ok-set in
     record {
       read = c.in_ok-read.ensures.read;
-      cleared = c.in_ok-digested.ensures.digested _ cell.0 cell.1 (cell.2 [] c.new-digest.ensures);
-      units = subst (λ (x : Cell). HaveUnits (units_of x) c.in_ok-read.read.desks.desks.items) (sym c.in_ok-digested.ensures.cell) c.in_ok-look_up_units.ensures.ok;
+      cleared = are_digested (g.D.Documents.gives c.args.documents.now) _ _ _ _ set.set cell.0 _ _ _ _ c.new-digest.ensures cell.1 cell.2 set.ensures.cleared c.digits.ensures;
+      units = subst (λ (x : Cell). HaveUnits (units_of x) c.in_ok-read.read.desks.desks.items) (sym set.ensures.cleared.same_cell) c.in_ok-look_up_units.ensures.ok;
     }

@@ -8,24 +8,17 @@ use Rattle.batch_verdicts.proofs.documents.show_documents.Goals as goal
 pub returns-clause-verdict : goal.returns-clause-verdict
 returns-clause-verdict g c =
     let So : List Recipe → Type 0 = λ rs. string_bytes c.in_ok-show_recipes.field-0 ≡ shown_recipes rs in
+    let (cell_read, recipes_read) = c.in_ok-read.ensures.read in
     record {
-      equipment = c.in_ok-read_cell.field-0;
-      recipes = c.in_ok-recipes.recipes.items;
-      cell_read = c.in_ok-read_cell.ensures.read;
-      recipes_read = c.in_ok-recipes.ensures.read;
+      equipment = c.in_ok-read.read.cell;
+      recipes = c.in_ok-read.read.recipes.items;
+      cell_read = cell_read;
+      recipes_read = recipes_read;
       judged = subst So c.deref.ensures.value c.in_ok-show_recipes.ensures;
     }
-
-pub returns-in_err-recipes-clause-halted : goal.returns-in_err-recipes-clause-halted
-returns-in_err-recipes-clause-halted g c =
-    let p = err_from_is_err_and c.from_residual-in_err-recipes.result c.from_residual-in_err-recipes.ensures.1 in
-    rw (p.1, p.2) (inr (c.in_ok-read_cell.field-0, c.in_ok-read_cell.ensures.read, c.in_err-recipes.ensures.halted))
 
 pub returns-in_err-show_recipes-clause-halted : goal.returns-in_err-show_recipes-clause-halted
 returns-in_err-show_recipes-clause-halted g c =
     let p = err_from_is_err_and c.from_residual-in_err-show_recipes.result c.from_residual-in_err-show_recipes.ensures.1 in
-    rw (p.1, p.2) (inr (
-      c.in_ok-read_cell.field-0,
-      c.in_ok-read_cell.ensures.read,
-      halts_without_memory (g.D.Documents.gives c.args.documents.now) (map string_bytes c.args.recipes.now),
-    ))
+    let (cell_read, recipes_read) = c.in_ok-read.ensures.read in
+    rw (p.1, p.2) (inr (c.in_ok-read.read.cell, cell_read, halts_without_memory (g.D.Documents.gives c.args.documents.now) (map string_bytes c.args.recipes.now)))

@@ -7,6 +7,6 @@ pub returns-clause-looked : goal.returns-clause-looked
 returns-clause-looked g c =
     let At : Halt → Type 0 = HaltsAtRecipe (g.D.Documents.gives c.args.documents.now) c.args.path.now in
     elim c.match-read_recipe.branch [
-      | in-Ok+in_ok-push-in-Ok w ↦ rw w.looked-is (inl (w.in-Ok.recipe, w.in-Ok.ensures.read, w.in_ok-push-in-Ok.ensures.items, refl))
+      | in-Ok+in_ok-push-in-Ok w ↦ rw w.looked-is (inl (w.in-Ok.recipe, (w.in-Ok.ensures.read.0, w.in-Ok.ensures.read.1.0, w.in-Ok.ensures.read.1.1), w.in_ok-push-in-Ok.ensures.items, refl))
       | in-Err-Refused+in_ok-push-in-Err-Refused w ↦ rw w.looked-is (inr (w.in-Err-Refused.refusal, subst At w.in-Err-Refused.field-0-is w.in-Err-Refused.ensures.halted, refl, w.in_ok-push-in-Err-Refused.ensures.items))
     ]

@@ -1,11 +1,13 @@
 use Rattle.std.proofs.Common.{refl}
-use Rattle.std.proofs.KnownBytes.{Keeps-refl}
+use Rattle.std.proofs.{KnownBytes.Keeps-refl, lemmas.Result.err_from_is_err_and}
 use Rattle.batch_cli.specs.CommandLine.{source_of}
-use Rattle.batch_verdicts.{specs.Running.halts, specs.Running.plants, proofs.WarningEffects.silent}
+use Rattle.batch_verdicts.{specs.Running.plants, proofs.WarningEffects.silent}
 use Rattle.batch_verdicts.proofs.running.plant.Goals as goal
 
-pub returns-in-Ok : goal.returns-in-Ok
-returns-in-Ok g c = plants (source_of c.args.source.now) c.in-Ok.set c.args.options refl c.in-Ok.ensures.set (Keeps-refl _) (Keeps-refl _)
+pub returns : goal.returns
+returns g c = λ quiet told said. plants (source_of c.args.source.now) _ c.args.options refl c.in_ok-set.ensures.set (Keeps-refl _) (Keeps-refl _)
 
-pub returns-in-Err : goal.returns-in-Err
-returns-in-Err g c = halts c.in-Err.halt _ _ (c.in-Err.ensures.halted, silent _ _) c.announce.ensures
+pub returns-in_err-set : goal.returns-in_err-set
+returns-in_err-set g c =
+    let p = err_from_is_err_and c.from_residual.result c.from_residual.ensures.1 in
+    rw (p.1, p.2) (λ quiet told said. ((c.in_err-set.ensures.halted, silent quiet said), refl))

@@ -1,6 +1,0 @@
-use Rattle.std.proofs.Common.{map, take, string_bytes}
-use Rattle.batch_verdicts.specs.Taking.{AreTaken}
-use Rattle.batch_verdicts.proofs.digested.read_recipes.Given as goal
-
-abbrev pub invariant-loop-path : goal.invariant-loop-path
-invariant-loop-path g l = AreTaken (g.D.Documents.gives l.documents) (map string_bytes (take l.path-index l.paths)) l.recipes.items l.initial.digest l.digest
