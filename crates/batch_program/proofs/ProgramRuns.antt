@@ -7,7 +7,7 @@ use Rattle.batch_model.specs.Plant.{Plant, Setup}
 use Rattle.batch_engine.specs.View.{setup}
 use Rattle.batch_wire.specs.{Transcript.lines_of, Transcript.whole_lines, Written.AppendsBeginning}
 use Rattle.batch_serve.specs.{Safe.BeginsSafely, Safe.WritesSafely, Safe.WritesWholeSafely, Serves.AnswersAll, Serves.Serves, Serves.WritesTo, declared.fault.ServeFault.TheVariants.Read, declared.fault.ServeFault.TheVariants.Write, declared.fault.ServeFault.TheVariants.TooManyReads, declared.fault.SetFault.SetFault, declared.fault.SetFault.TheVariants.Memory, declared.fault.SetFault.TheVariants.Stopped}
-use Rattle.batch_cli.specs.{declared.comments.Comments.Comments, CommandLine.Request, CommandLine.SetSource, CommandLine.audit, CommandLine.plant, CommandLine.serve, CommandLine.source_of, CommandLine.tell, CommandLine.keep, CommandLine.write, CommandLine.picture, declared.command.AuditWords.AuditWords, declared.plant_options.PlantOptions.PlantOptions}
+use Rattle.batch_cli.specs.{declared.comments.Comments.Comments, CommandLine.Request, CommandLine.SetSource, CommandLine.audit, CommandLine.plant, CommandLine.serve, CommandLine.source_of, CommandLine.tell, CommandLine.keep, CommandLine.picture, declared.command.AuditWords.AuditWords, declared.plant_options.PlantOptions.PlantOptions}
 use Rattle.batch_verdicts.{specs.Reading.Gives, specs.Requests.IsSetOf, specs.Running.AskFor, specs.Running.IsAnnounced, specs.Running.IsDone, specs.Running.IsExplained, specs.Running.IsPrinted, specs.Running.IsRun, specs.Running.IsUnwritten, specs.Running.Stream, specs.Running.ask_quiet, specs.Running.fault_status, specs.Running.success_status, specs.Running.usage_status, specs.Running.memory_status, specs.Statuses.IsSuccess, proofs.Successes.done_keeping, proofs.Successes.done_serving, proofs.Successes.every_in_range, proofs.Successes.same_request, proofs.Successes.success_is_told, specs.Judging.status_of, specs.declared.course.Course.Course, specs.declared.course.Course.TheVariants.Ends, specs.declared.refusal.Halt.Halt, specs.declared.refusal.RefusalKind.RefusalKind, specs.declared.refusal.RefusalKind.TheVariants.Fault, specs.declared.refusal.RefusalKind.TheVariants.OutOfMemory, specs.Digested.AreDigested, specs.declared.digested.Digested.Digested}
 use Rattle.batch_verdicts.specs.Running as running
 use Rattle.batch_verdicts.specs.declared.course.Course.TheVariants as course_of

@@ -14,7 +14,7 @@ use Rattle.batch_pipes.specs.Service.{AreDesksServed}
 use Rattle.batch_verify.specs.ClearedSet.{ClearedSet}
 use Rattle.batch_reader.specs.{Entries.AllItems, Entries.IsTableOf, DeskNames.desk_names, DesksDocument.IsDeskTable, declared.desk.Desk.Desk, declared.desk_set.Desks.Desks}
 use Rattle.batch_verdicts.specs.{DeskSets.AreDesksCleared, Reading.Gives, Running.Stream}
-use Rattle.batch_program.{specs.DeskRuns.AreDesksKept, specs.DeskRuns.AreDesksOn, specs.DeskRuns.AreDesksOver, specs.DeskRuns.AreDesksRun, specs.JournalRuns.DiskKind, specs.JournalRuns.IsJournalTold, specs.JournalRuns.JournalFiles, specs.JournalRuns.fails, specs.JournalRuns.refuses, specs.JournalRuns.serves, specs.JournalRuns.stops, specs.Programs.DesksAreKept, specs.RecordRuns.Holds, specs.RecordRuns.IsUntold, specs.RecordRuns.output_of, proofs.DeskService.desks_ran, proofs.SafeJournals.can_be_cleared, proofs.SafeJournals.not_opened}
+use Rattle.batch_program.{specs.DeskRuns.AreDesksKept, specs.DeskRuns.AreDesksOn, specs.DeskRuns.AreDesksOver, specs.DeskRuns.AreDesksRun, specs.JournalRuns.DiskKind, specs.JournalRuns.IsJournalTold, specs.JournalRuns.JournalFiles, specs.JournalRuns.fails, specs.JournalRuns.refuses, specs.JournalRuns.serves, specs.JournalRuns.stops, specs.Programs.DesksAreKept, specs.RecordRuns.Holds, specs.RecordRuns.output_of, proofs.DeskService.desks_ran, proofs.SafeJournals.can_be_cleared, proofs.SafeJournals.not_opened}
 
 -- Names
 

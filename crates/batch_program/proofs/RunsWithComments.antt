@@ -3,7 +3,7 @@ use Rattle.std.proofs.Common.{◌≡◌, ℕ, Bool, List, Option, Some, None, Re
 use Rattle.std.specs.Io.KnownBytes.{Keeps}
 use Rattle.clap.specs.Walk.{Text}
 use Rattle.batch_verify.specs.ClearedSet.{ClearedSet}
-use Rattle.batch_cli.specs.{CommandLine.Request, CommandLine.SetSource, CommandLine.remark, CommandLine.serve, declared.comments.Comments.Comments}
+use Rattle.batch_cli.specs.{CommandLine.Request, CommandLine.SetSource, CommandLine.remark, declared.comments.Comments.Comments}
 use Rattle.batch_verdicts.{specs.Reading.Gives, specs.Requests.IsSetOf, specs.Running.AskFor, specs.Running.IsDone, specs.Running.IsRun, specs.Running.IsUnwritten, specs.Running.Stream, specs.Running.ask_quiet, specs.declared.course.Course.Course, proofs.Successes.same_request}
 use Rattle.batch_verdicts.specs.Running as running
 use Rattle.batch_verdicts.specs.declared.course.Course.TheVariants as course_of

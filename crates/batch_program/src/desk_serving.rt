@@ -5,6 +5,7 @@ ghost use Rattle.batch_pipes.specs.declared.fault.DesksFault as faults;
 ghost use Rattle.batch_program.specs.DeskRuns.{AreDesksRun, IsDesksRecord, status_of_desks, status_of_fault};
 ghost use Rattle.batch_program.specs.JournalRuns.{disks_of};
 
+use crate::complaints::complain_stream;
 use crate::desk_keeping::serve_desks_over_journal;
 use crate::desk_runner::DeskRunner;
 use crate::journals::Journals;
@@ -16,15 +17,6 @@ use batch_verdicts::{DeskSet, FILE_FAULT, NO_MEMORY, OUT_OF_MEMORY, SUCCESS, com
 use std::alloc::Global;
 use std::io;
 use std::io::Write;
-use thiserror::Error;
-
-/// Why serving stopped, and the reason that the output gave.
-#[derive(Debug, Error, Drop)]
-#[error("{fault}: {reason}")]
-struct DesksStop {
-    fault: DesksFault,
-    reason: io::Error,
-}
 
 /// Serves the desks over their set, with a journal of their lines in the file at the path if there is one, and gives the exit status.
 pub(crate) fn run_desks<J: Journals, P: DeskRunner, W: Write, E: Write>(
@@ -95,18 +87,13 @@ pub(crate) fn report_ended<E: Write>(
             report_left(alloc, quiet, left, errors);
             SUCCESS
         }
-        Err(fault) => report_fault(fault, reason, errors),
-    }
-}
-
-/// Reports why serving stopped, and gives the exit status.
-fn report_fault<E: Write>(fault: DesksFault, reason: Option<io::Error>, errors: &mut E) -> u8
-    ensures { result ≡ status_of_fault fault }
-{
-    let status = desks_status(fault);
-    match (fault, reason) {
-        (DesksFault::Record, Some(reason)) => complain(errors, DesksStop { fault, reason }, status),
-        _ => complain(errors, fault, status),
+        Err(fault) => {
+            let reason = match fault {
+                DesksFault::Record => reason,
+                _ => None,
+            };
+            complain_stream(fault, reason, desks_status(fault), errors)
+        }
     }
 }
 

@@ -4,6 +4,8 @@ ghost use Rattle.batch_verdicts.specs.Running.{fault_status, memory_status};
 ghost use Rattle.batch_program.specs.JournalRuns.{IsJournalRefused, journal_text};
 ghost use Rattle.batch_program.specs.Keeping.{IsStartTold};
 
+use crate::complaints::{complain_file, complain_stream};
+use crate::statuses::REFUSED;
 use batch_journal::{DiskError, RecoveryFault};
 use batch_keep::{BlockFault, KeepFault, StartFault};
 use batch_pipes::Noted;
@@ -12,29 +14,8 @@ use batch_serve::ServeFault;
 use batch_verdicts::{FILE_FAULT, NO_MEMORY, OUT_OF_MEMORY, complain, print, write_and_flush};
 use batch_wording::shown;
 use std::alloc::{AllocError, Global};
-use std::fmt::Display;
 use std::io;
 use std::io::{ErrorKind, Read, Write};
-use thiserror::Error;
-
-/// The exit status if a journal is refused.
-const REFUSED: u8 = 1;
-
-/// The fault of the journal at this path.
-#[derive(Debug, Error, Drop)]
-#[error("{path}: {reason}")]
-struct FailedJournal<T: Display> {
-    path: String,
-    reason: T,
-}
-
-/// Why serving stopped, and the reason that the stream gave.
-#[derive(Debug, Error, Drop)]
-#[error("{fault}: {reason}")]
-struct Stop {
-    fault: ServeFault,
-    reason: io::Error,
-}
 
 /// Prints why a journal is refused, or reports why it can't be served over, and gives the exit status.
 #[tactic(auto, using(crate::proofs::RunsOverJournal::start_told, crate::proofs::RunsOverJournal::start_untold))]
@@ -58,7 +39,7 @@ pub(crate) fn refuse_start<W: Write, E: Write>(
         | StartFault::Block(BlockFault::Status(StatusFault::Memory)) => {
             complain(errors, OUT_OF_MEMORY, NO_MEMORY)
         }
-        StartFault::Block(fault) => complain_journal(alloc, path, fault, errors),
+        StartFault::Block(fault) => complain_file(alloc, path, fault, errors),
     }
 }
 
@@ -79,7 +60,7 @@ fn refuse<W: Write, E: Write>(
     };
     let status = print(output, errors, &text, REFUSED);
     if status == REFUSED && !quiet {
-        complain_journal(alloc, path, refusal, errors);
+        complain_file(alloc, path, refusal, errors);
     }
     status
 }
@@ -129,7 +110,7 @@ fn cut_text(alloc: Global, path: &str, cut: usize) -> Result<String, AllocError>
 pub(crate) fn complain_block<E: Write>(reason: Option<io::Error>, errors: &mut E) -> u8
     ensures { result ≡ fault_status }
 {
-    complain_stream(ServeFault::Write, reason, errors)
+    complain_stream(ServeFault::Write, reason, FILE_FAULT, errors)
 }
 
 /// Reports why serving over a journal stopped, and gives the exit status.
@@ -146,22 +127,13 @@ pub(crate) fn complain_stopped<R: Read, W: Write, E: Write>(
     match fault {
         KeepFault::Memory => complain(errors, OUT_OF_MEMORY, NO_MEMORY),
         KeepFault::Serve(ServeFault::Read) => match input.failure() {
-            Some(reason) => complain_stream(ServeFault::Read, Some(reason), errors),
+            Some(reason) => complain_stream(ServeFault::Read, Some(reason), FILE_FAULT, errors),
             None => complain_disk(alloc, path, DiskError::File, errors),
         },
         KeepFault::Serve(ServeFault::Write) => {
-            complain_stream(ServeFault::Write, output.failure(), errors)
+            complain_stream(ServeFault::Write, output.failure(), FILE_FAULT, errors)
         }
-        KeepFault::Serve(fault) => complain_stream(fault, None, errors),
-    }
-}
-
-fn complain_stream<E: Write>(fault: ServeFault, reason: Option<io::Error>, errors: &mut E) -> u8
-    ensures { result ≡ fault_status }
-{
-    match reason {
-        Some(reason) => complain(errors, Stop { fault, reason }, FILE_FAULT),
-        None => complain(errors, fault, FILE_FAULT),
+        KeepFault::Serve(fault) => complain_stream(fault, None, FILE_FAULT, errors),
     }
 }
 
@@ -175,9 +147,9 @@ pub(crate) fn complain_unopened<E: Write>(
     ensures { (result ≡ fault_status) ⊎ (result ≡ memory_status) }
 {
     if reason.kind() == ErrorKind::WouldBlock {
-        return complain_journal(alloc, path, "another process has it", errors);
+        return complain_file(alloc, path, "another process has it", errors);
     }
-    complain_journal(alloc, path, reason, errors)
+    complain_file(alloc, path, reason, errors)
 }
 
 /// Reports why a call of the journal's disk failed, and gives the exit status.
@@ -190,22 +162,7 @@ pub(crate) fn complain_disk<E: Write>(
     ensures { (result ≡ fault_status) ⊎ (result ≡ memory_status) }
 {
     match fault {
-        DiskError::File => complain_journal(alloc, path, fault, errors),
+        DiskError::File => complain_file(alloc, path, fault, errors),
         DiskError::Memory => complain(errors, OUT_OF_MEMORY, NO_MEMORY),
-    }
-}
-
-/// Reports the fault of the journal at the path, and gives its exit status.
-fn complain_journal<T: Display + Drop, E: Write>(
-    alloc: Global,
-    path: &str,
-    reason: T,
-    errors: &mut E,
-) -> u8
-    ensures { (result ≡ fault_status) ⊎ (result ≡ memory_status) }
-{
-    match shown(alloc, path) {
-        Ok(path) => complain(errors, FailedJournal { path, reason }, FILE_FAULT),
-        Err(_) => complain(errors, OUT_OF_MEMORY, NO_MEMORY),
     }
 }

@@ -1,6 +1,7 @@
 //! The program carries out the command of its words over files and streams. `main` of the program and of every stored run calls it.
 #![tactic(auto)]
 
+mod complaints;
 mod desk_keeping;
 mod desk_runner;
 mod desk_serving;

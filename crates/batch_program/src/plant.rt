@@ -3,13 +3,11 @@ ghost use Rattle.std.specs.Prelude.{◌≡◌, IfOk, string_bytes};
 ghost use Rattle.batch_verdicts.specs.Running.{Stream};
 ghost use Rattle.batch_program.specs.PlantRuns.{IsPlantTold, plant_text};
 
+use crate::statuses::REFUSED;
 use batch_plant::PlantFault;
 use batch_verdicts::{NO_MEMORY, OUT_OF_MEMORY, complain, print};
 use std::alloc::{AllocError, Global};
 use std::io::Write;
-
-/// The exit status if the turns of a worker ran out.
-const REFUSED: u8 = 1;
 
 /// Prints the lines of a plant of so many batches, and gives the exit status. An end without a line is reported on the errors.
 // claim: plant's lines

@@ -3,6 +3,7 @@ ghost use Rattle.std.specs.Prelude.{◌≡◌, IfOk, map, string_bytes};
 ghost use Rattle.batch_program.specs.JournalRuns.{disks_of};
 ghost use Rattle.batch_program.specs.Programs.{IsLeftTold, IsProgramRun, IsSetServed, IsServedRemarked, left_text, status_of_serving};
 
+use crate::complaints::complain_stream;
 use crate::desk_runner::DeskRunner;
 use crate::desk_serving::run_desks;
 use crate::file_writing::write_file;
@@ -18,23 +19,14 @@ use crate::statuses::serving_status;
 use batch_cli::Comments;
 use batch_pipes::Noted;
 use batch_serve::{NoRemarks, Remarking, ServeFault, SetFault, serve_remarked, serve_set};
-use batch_verdicts::{Course, Documents, complain, run_words, write_and_flush};
+use batch_verdicts::{Course, Documents, run_words, write_and_flush};
 use batch_verify::Cleared;
 use std::alloc::{AllocError, Global};
 use std::io;
 use std::io::{Read, Write};
-use thiserror::Error;
 
 /// How often standard input or a record may be read, interrupted calls among them. No clause counts them; tests do, with other limits.
 pub const MAX_READS: u64 = 1_000_000_000;
-
-/// Why serving stopped, and the reason that the stream gave.
-#[derive(Debug, Error, Drop)]
-#[error("{fault}: {reason}")]
-struct Stop {
-    fault: SetFault,
-    reason: io::Error,
-}
 
 /// Carries out the command of the words, and gives the exit status.
 ///
@@ -219,10 +211,9 @@ fn report_served<E: Write>(
     ensures told { IfOk served (IsLeftTold quiet (record { before = E.contents errors.old; after = E.contents errors.new })) }
 {
     let status = serving_status(served);
-    match (served, reason) {
-        (Ok(left), _) => report_left(alloc, quiet, left, errors),
-        (Err(fault), Some(reason)) => return complain(errors, Stop { fault, reason }, status),
-        (Err(fault), None) => return complain(errors, fault, status),
+    match served {
+        Ok(left) => report_left(alloc, quiet, left, errors),
+        Err(fault) => return complain_stream(fault, reason, status, errors),
     }
     status
 }

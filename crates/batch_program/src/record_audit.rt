@@ -5,8 +5,9 @@ ghost use Rattle.batch_program.specs.AuditRuns.{IsAuditTold, finding_status, fin
 ghost use Rattle.batch_program.specs.RecordRuns.{IsUntold};
 ghost use Rattle.batch_program.specs.Telling.{IsFindingTold};
 
-use crate::record_status::complain_unopened;
+use crate::complaints::{complain_file, complain_stream};
 use crate::records::Records;
+use crate::statuses::REFUSED;
 use batch_cli::AuditWords;
 use batch_keep::{AuditFault, Finding, audit};
 use batch_pipes::Noted;
@@ -15,18 +16,6 @@ use batch_verify::Cleared;
 use std::alloc::{AllocError, Global};
 use std::io;
 use std::io::{ErrorKind, Read, Write};
-use thiserror::Error;
-
-/// The exit status if a record isn't that of the lines that were sent.
-const REFUSED: u8 = 1;
-
-/// Why a record wasn't compared, and the reason that the stream gave.
-#[derive(Debug, Error, Drop)]
-#[error("{fault}: {reason}")]
-struct FailedAudit {
-    fault: AuditFault,
-    reason: io::Error,
-}
 
 /// Prints whether the record that the words name is that of the event lines of the input over the set, and gives the exit status. A
 /// record that ends too soon is accepted if they say so.
@@ -140,16 +129,15 @@ pub(crate) fn complain_unread<E: Write>(
     if reason.kind() == ErrorKind::OutOfMemory {
         return complain(errors, OUT_OF_MEMORY, NO_MEMORY);
     }
-    complain_unopened(alloc, path, reason, errors)
+    complain_file(alloc, path, reason, errors)
 }
 
 /// Reports why a record wasn't compared, with the stream's reason if it gave one, and gives the exit status.
 fn complain_unfound<E: Write>(fault: AuditFault, reason: Option<io::Error>, errors: &mut E) -> u8
     ensures { (result ≡ fault_status) ⊎ (result ≡ memory_status) }
 {
-    match (fault, reason) {
-        (AuditFault::Memory, _) => complain(errors, fault, NO_MEMORY),
-        (_, Some(reason)) => complain(errors, FailedAudit { fault, reason }, FILE_FAULT),
-        (_, None) => complain(errors, fault, FILE_FAULT),
+    match fault {
+        AuditFault::Memory => complain(errors, fault, NO_MEMORY),
+        AuditFault::Read => complain_stream(fault, reason, FILE_FAULT, errors),
     }
 }

@@ -8,7 +8,8 @@ ghost use Rattle.batch_record.specs.Recorded.{IsRecord};
 ghost use Rattle.batch_record.specs.declared.picture.Picture.{Picture};
 ghost use Rattle.batch_record.specs.declared.picture_reading.RecordFault.TheVariants.{NoRecord};
 
-use crate::record_status::{complain_unopened, refuse_line};
+use crate::complaints::complain_file;
+use crate::record_status::refuse_line;
 use crate::records::Records;
 use batch_pipes::Noted;
 use batch_record::{RecordFault, draw_record};
@@ -46,7 +47,7 @@ pub fn draw_record_at<D: Records, R: Read, W: Write, E: Write>(
         None => draw_record_of(alloc, input, output, errors),
         Some(path) => match records.open(&path) {
             Ok(mut opened) => draw_record_of(alloc, &mut opened, output, errors),
-            Err(reason) => complain_unopened(alloc, &path, reason, errors),
+            Err(reason) => complain_file(alloc, &path, reason, errors),
         },
     }
 }

@@ -14,4 +14,4 @@ pub returns-in-Err-Memory : goal.returns-in-Err-Memory
 returns-in-Err-Memory g c = stops (Keeps-refl _, inr c.complain.ensures)
 
 pub returns-in-Err : goal.returns-in-Err
-returns-in-Err g c = stops (Keeps-refl _, inl c.complain_unread.ensures)
+returns-in-Err g c = stops (Keeps-refl _, inl c.complain_stream.ensures)
