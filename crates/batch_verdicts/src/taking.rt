@@ -9,6 +9,7 @@ pub(crate) trait TextTaker {
     // It has taken these texts.
     ghost has_taken: { Self → List (List ℕ) → Type 0 };
 
+    /// Takes the text of the next document.
     fn take_text(&mut self, text: &[u8])
         ensures { (texts : List (List ℕ)) → has_taken self.old texts → has_taken self.new (texts ++ text.now ∷ []) };
 }
@@ -21,7 +22,7 @@ impl TextTaker for DocumentsDigest {
     }
 }
 
-/// Takes nothing, where nobody asks for the digits.
+/// Takes no text, for callers that need no digest.
 #[derive(Drop)]
 pub(crate) struct NoTaker;
 
