@@ -1,6 +1,6 @@
 -- Sets of numbers as bits, and one more edge in a set of edges.
-use Rattle.std.proofs.Common.{◌≡◌, ◌≢◌, ℕ, ◌+◌, ◌*◌, ◌<◌, ◌≤◌, ◌/◌, ◌%◌, true, false, nat_eq, IsTrue, List, [], length, replicate, set, get_or, bit_and, inl, inr, sym, ap, ◌∙◌, subst, arith, get_or-set_same, get_or-set_other}
-use Rattle.std.{specs.Prelude.min, specs.Int.bit_at, proofs.lemmas.Bool.cases_eq, proofs.lemmas.Bool.eqb-true, proofs.lemmas.Bool.false_from_ne_true, proofs.lemmas.Nat.div-add-mod', proofs.lemmas.Nat.Bits.bit_at-lt, proofs.lemmas.Nat.Bits.bit_at-zero, proofs.lemmas.Nat.Bits.bit_at_and}
+use Rattle.std.proofs.Common.{◌≡◌, ◌≢◌, ◌⊎◌, ℕ, ◌+◌, ◌*◌, ◌<◌, ◌≤◌, ◌/◌, ◌%◌, true, false, nat_eq, IsTrue, List, [], length, replicate, set, get_or, bit_and, inl, inr, sym, ap, ◌∙◌, subst, arith, get_or-set_same, get_or-set_other}
+use Rattle.std.{specs.Prelude.min, specs.Int.bit_at, proofs.lemmas.Bool.cases_eq, proofs.lemmas.Bool.eqb-true, proofs.lemmas.Bool.false_from_ne_true, proofs.lemmas.List.get_or_default, proofs.lemmas.Nat.div-add-mod', proofs.lemmas.Nat.Bits.bit_at-lt, proofs.lemmas.Nat.Bits.bit_at-zero, proofs.lemmas.Nat.Bits.bit_at_and, proofs.lemmas.Nat.Bits.same_from_bits}
 use Rattle.batch_signs.{specs.Bits.with_one, proofs.Bits.with-one_same, proofs.Bits.with-one_other, proofs.Bits.zeros}
 use Rattle.batch_check.specs.{declared.edge.Edge.Edge, Edges.has_pair, Pairs.has_bit}
 
@@ -31,6 +31,14 @@ module _ (words : List ℕ) (n word : ℕ) (within : n / 64 < length words) (bit
     | inr other ↦ has_bit-kept m other ∙ is
   ]
 
+-- a word that changes where its bit is set hasn't this bit
+was_unset : (word marked at : ℕ) → ((k : ℕ) → bit_at marked k ≡ with_one at (bit_at word) k) → marked ≢ word → ¬ (IsTrue (nat_eq (bit_at word at) 1))
+was_unset word marked at bits differ is = differ (same_from_bits marked word (λ k. bits k ∙ same k (cases_eq k at)))
+  where
+    same : (k : ℕ) → (k ≡ at) ⊎ (k ≢ at) → with_one at (bit_at word) k ≡ bit_at word k
+    same k (inl e) = subst (λ i. with_one at (bit_at word) i ≡ bit_at word i) (sym e) (with-one_same at (bit_at word) ∙ sym (eqb-true (bit_at word at) 1 is))
+    same k (inr other) = with-one_other at k (bit_at word) (false_from_ne_true (nat_eq k at) (λ e. other (eqb-true k at e)))
+
 -- a bit of the one word is one of the other, where the other has all of them
 bit_kept : (a b k : ℕ) → bit_and a b ≡ b → bit_at b k ≡ 1 → bit_at a k ≡ 1
 bit_kept a b k whole one =
@@ -58,3 +66,10 @@ row_has_each count known edges numbers i j first few exact in_i in_j begins whol
 -- no edge leads anywhere at first
 pub none-exact : (count words : ℕ) → IsExact count (replicate words 0) []
 none-exact count words i j in_i in_j = ap (λ w. nat_eq (bit_at w ((j * 448 + i) % 64)) 1) (zeros words ((j * 448 + i) / 64)) ∙ ap (λ b. nat_eq b 1) (bit_at-zero ((j * 448 + i) % 64))
+
+-- no edge leads from the one resource to the other before a bit is set for it
+pub none-before : (count : ℕ) (known : List ℕ) (edges : List Edge) (i j word marked : ℕ) → count ≤ 448 → length known ≡ count * 7 → IsExact count known edges → i < count → j < count
+    → word ≡ get_or known ((j * 448 + i) / 64) word → ((k : ℕ) → bit_at marked k ≡ with_one ((j * 448 + i) % 64) (bit_at word) k) → marked ≢ word → ¬ (IsTrue (has_pair edges i j))
+none-before count known edges i j word marked few sized exact in_i in_j read bits differ is =
+    let there : word ≡ get_or known ((j * 448 + i) / 64) 0 = read ∙ get_or_default known ((j * 448 + i) / 64) word 0 (omega (arith, sized, few, in_i, in_j)) in
+    was_unset word marked ((j * 448 + i) % 64) bits differ (ap (λ w. nat_eq (bit_at w ((j * 448 + i) % 64)) 1) there ∙ (exact i j in_i in_j ∙ is))

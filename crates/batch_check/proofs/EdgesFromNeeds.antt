@@ -25,10 +25,14 @@ Grows-twice old mid new h g = record {
   same_count = g.same_count ∙ h.same_count;
   kept = λ i j known. g.kept i j (h.kept i j known);
   stays = λ edge stands. g.stays edge (h.stays edge stands);
+  fresh = λ edge stands. elim (g.fresh edge stands) [
+    | inl among ↦ h.fresh edge among
+    | inr apart ↦ inr (λ known. apart (h.kept edge.earlier edge.later known))
+  ];
 }
 
 pub Grows-same : (edges : EdgeSet) → Grows edges edges
-Grows-same edges = record { same_count = refl; kept = λ i j known. known; stays = λ edge stands. stands }
+Grows-same edges = record { same_count = refl; kept = λ i j known. known; stays = λ edge stands. stands; fresh = λ edge stands. inl stands }
 
 -- Needs that are joined
 

@@ -1,10 +1,10 @@
 -- The edges of recipes, one recipe after another.
-use Rattle.std.proofs.Common.{◌≡◌, ℕ, ◌+◌, ◌-◌, ◌<◌, ◌≤◌, ◌⊎◌, ◌&&◌, inl, inr, refl, List, [], ◌∷◌, ◌++◌, get_or, take, length, slice_get, ltb, nat_eq, IsTrue, Vec, Option, Some, None, option_map, All, sym, ap, ◌∙◌, subst, arith, lt-ltb}
+use Rattle.std.proofs.Common.{◌≡◌, ℕ, zero, suc, ◌+◌, ◌-◌, ◌<◌, ◌≤◌, ◌⊎◌, ◌&&◌, inl, inr, refl, List, [], ◌∷◌, ◌++◌, get_or, take, length, slice_get, ltb, nat_eq, IsTrue, Vec, Option, Some, None, option_map, All, sym, ap, ◌∙◌, subst, arith, lt-ltb}
 use Rattle.std.{specs.Global.Global, specs.List.Contains, proofs.lemmas.Bool.and_from, proofs.lemmas.Bool.and_parts, proofs.lemmas.Bool.cases_lt, proofs.lemmas.Bool.eq-eqb, proofs.lemmas.Bool.ltb-true, proofs.lemmas.Bool.not-false, proofs.lemmas.Bool.or_left, proofs.lemmas.Bool.or_right, proofs.lemmas.Bool.true≢false, proofs.lemmas.List.get_or_past, proofs.lemmas.List.take_more, proofs.lemmas.List.Elements.All-weaker, proofs.lemmas.List.Elements.All-contains, proofs.lemmas.List.Elements.Contains-get_or, proofs.lemmas.Option.none-some, proofs.lemmas.Option.same_Some, proofs.lemmas.Option.slice_get_within, proofs.lemmas.Option.slice_get-get_or, proofs.lemmas.Option.slice_get-map}
 use Rattle.batch_cell.specs.{LookUps.resources_of, declared.cell.Cell.Cell}
 use Rattle.batch_recipe.specs.{Conditions.Name, Conditions.same_name, Procedure.bound_nodes, declared.recipe.Recipe.Recipe, declared.role.Role.Role}
 use Rattle.batch_model.{specs.Lists.Each, proofs.Members.Each-append, proofs.Members.Each-map}
-use Rattle.batch_check.{specs.declared.edge.Edge.Edge, specs.declared.edge_set.EdgeSet.EdgeSet, specs.Takings.AreUnitsOf, specs.Takings.Taking, specs.Takings.alike, specs.Takings.apart, specs.Takings.units_by, specs.declared.site.Site.Site, specs.Edges.OfNodes, specs.Edges.EdgeStands, specs.Edges.Covers, specs.Edges.CoversRecipes, specs.Edges.AreEdgesOf, specs.Edges.has_pair, specs.Edges.number_of_resource, specs.Edges.numbers_of_resources, specs.LeastRanking.HasEndsBelow, specs.Pairs.Keeps, specs.Joining.Grows, specs.Joining.HasTaken, specs.Collecting.AreAdded, specs.Collecting.AreTakenIn, specs.Collecting.AreTakenOn, specs.Collecting.AreThose, specs.Collecting.HasAllPairs, specs.Collecting.HasRaised, specs.Collecting.HasTakenBy, specs.Collecting.IsAdded, specs.Collecting.IsCollected, specs.Collecting.IsRaised, specs.Collecting.IsTakenAs, specs.Collecting.PairsAll, specs.Collecting.PairsRecipe, specs.Collecting.is_behind, specs.Collecting.is_of_role, specs.Collecting.raised, specs.Sites.bound_on, specs.Sites.count_with_roles, specs.Sites.nodes_on, specs.Sites.resource_count, specs.Sites.resource_on, specs.Sites.units_on, proofs.EdgesOfAct.Follows-keeps, proofs.PairsInBindings.follows_shown, proofs.PairsInBindings.paired_shown, proofs.EdgesFromNeeds.Contains-at, proofs.EdgesFromNeeds.Contains-none, proofs.EdgesFromNeeds.Grows-twice, proofs.EdgesFromNeeds.at-Contains, proofs.RanksAlongPaths.Each-get, proofs.Roles.resource_for-below, proofs.Roles.resource_for-past, proofs.RoleUnits.apart_other, proofs.RoleUnits.apart_own, proofs.RoleUnits.as_many_units, proofs.RoleUnits.item_at, proofs.RoleUnits.itself, proofs.RoleUnits.last_or_before, proofs.RoleUnits.raised_is, proofs.RoleUnits.roles_apart, proofs.RoleUnits.same_unit}
+use Rattle.batch_check.{specs.declared.edge.Edge.Edge, specs.declared.edge_set.EdgeSet.EdgeSet, specs.Takings.AreUnitsOf, specs.Takings.Taking, specs.Takings.alike, specs.Takings.apart, specs.Takings.units_by, specs.declared.site.Site.Site, specs.Edges.OfNodes, specs.Edges.EdgeStands, specs.Edges.Covers, specs.Edges.CoversRecipes, specs.Edges.AreEdgesOf, specs.Edges.AsksNext, specs.Edges.IsOfFirst, specs.Edges.has_pair, specs.Edges.number_of_resource, specs.Edges.numbers_of_resources, specs.LeastRanking.HasEndsBelow, specs.Pairs.Keeps, specs.Joining.Grows, specs.Joining.HasTaken, specs.Collecting.AreAdded, specs.Collecting.AreTakenIn, specs.Collecting.AreTakenOn, specs.Collecting.AreThose, specs.Collecting.HasAllPairs, specs.Collecting.HasRaised, specs.Collecting.HasTakenBy, specs.Collecting.IsAdded, specs.Collecting.IsCollected, specs.Collecting.IsRaised, specs.Collecting.IsTakenAs, specs.Collecting.PairsAll, specs.Collecting.PairsRecipe, specs.Collecting.StandsIn, specs.Collecting.is_behind, specs.Collecting.is_of_role, specs.Collecting.raised, specs.Sites.bound_on, specs.Sites.count_with_roles, specs.Sites.nodes_on, specs.Sites.resource_count, specs.Sites.resource_on, specs.Sites.units_on, proofs.EdgesOfAct.Follows-keeps, proofs.PairsInBindings.follows_at, proofs.PairsInBindings.follows_shown, proofs.PairsInBindings.paired_shown, proofs.EdgesFromNeeds.Contains-at, proofs.EdgesFromNeeds.Contains-none, proofs.EdgesFromNeeds.Grows-twice, proofs.EdgesFromNeeds.at-Contains, proofs.RanksAlongPaths.Each-get, proofs.Roles.resource_for-below, proofs.Roles.resource_for-past, proofs.RoleUnits.apart_other, proofs.RoleUnits.apart_own, proofs.RoleUnits.as_many_units, proofs.RoleUnits.item_at, proofs.RoleUnits.itself, proofs.RoleUnits.last_or_before, proofs.RoleUnits.raised_is, proofs.RoleUnits.roles_apart, proofs.RoleUnits.same_unit}
 use Rattle.batch_verify.{specs.Bindings.binding_count, proofs.NumberedBindings.differ, proofs.NumberedBindings.some-binding, proofs.NumberedBindings.taken-tried}
 use Rattle.batch_set.proofs.ResourceNumbers.{number-at}
 
@@ -14,6 +14,23 @@ covers_more cell old new keeps (r ∷ rs) h = (
   λ bound tried. Each-map (Covers cell old) (Covers cell new) (λ node covered. Follows-keeps old new keeps None (numbers_of_resources cell node.asked) covered) (bound_nodes bound r.acts) (h.0 bound tried),
   covers_more cell old new keeps rs h.1,
 )
+
+-- no path of the recipe asks for the edge's resources one right after the other
+abbrev IsUnasked : Cell → Edge → Recipe → Type 0
+IsUnasked cell e = OfNodes cell (λ node. ¬ (AsksNext cell node e.earlier e.later))
+
+-- so it is where edges cover the paths, and none of them joins the two
+unasked : (cell : Cell) (edges : List Edge) (e : Edge) → ¬ (IsTrue (has_pair edges e.earlier e.later)) → (recipes : List Recipe) → CoversRecipes cell recipes edges → Each (IsUnasked cell e) recipes
+unasked cell edges e apart = Each-map (OfNodes cell (Covers cell edges)) (IsUnasked cell e) (λ r covered bound tried.
+    Each-map (Covers cell edges) (λ node. ¬ (AsksNext cell node e.earlier e.later)) (λ node here asks.
+    apart (follows_at edges None (numbers_of_resources cell node.asked) asks.place (Some e.earlier) (Some e.later) here asks.earlier_is
+    (subst (λ k. slice_get (numbers_of_resources cell node.asked) k ≡ Some (Some e.later)) (omega arith) asks.later_is)))
+    (bound_nodes bound r.acts) (covered bound tried))
+
+Each-take : {X : Type 0} (P : X → Type 0) (n : ℕ) (xs : List X) → Each P xs → Each P (take n xs)
+Each-take P zero xs h = tt
+Each-take P (suc n) [] h = tt
+Each-take P (suc n) (x ∷ xs) h = (h.0, Each-take P n xs h.1)
 
 -- where the needs of all paths are paired, there is an edge wherever one stands
 pair_stands : (cell : Cell) (recipes : List Recipe) (edges : List Edge) → Each (PairsRecipe cell edges) recipes → (e : Edge) → EdgeStands cell recipes e → IsTrue (has_pair edges e.earlier e.later)
@@ -39,7 +56,7 @@ module _ (cell : Cell) (recipes : List Recipe) where
 
   module _ (kept : Option (List (Option ℕ))) (old : EdgeSet) where
     pub AreAdded-more : (set new : EdgeSet) (index : ℕ) (recipe : Recipe) → AreAdded cell kept recipes (take index recipes) old set → index < length recipes
-        → recipe ≡ get_or recipes index recipe → ((all : List Recipe) → slice_get all index ≡ Some recipe → IsAdded cell kept all recipe set new)
+        → recipe ≡ get_or recipes index recipe → ((all : List Recipe) → slice_get all index ≡ Some recipe → IsAdded cell kept all index recipe set new)
         → AreAdded cell kept recipes (take (index + 1) recipes) old new
     AreAdded-more set new index recipe h in' is adds =
         let added = adds recipes (slice_get-get_or recipes index recipe in' ∙ ap (λ (r : Recipe). Some r) (sym is)) in
@@ -47,7 +64,17 @@ module _ (cell : Cell) (recipes : List Recipe) where
         take_more recipes index recipe in' ∙ ap (λ (r : Recipe). take index recipes ++ r ∷ []) (sym is) in
         record {
           grown = Grows-twice old set new h.grown added.grown;
-          standing = λ edge stands. elim (added.standing edge stands) [ inl known ↦ h.standing edge known | inr here ↦ inr here ];
+          standing = λ edge stands. elim (added.grown.fresh edge stands) [
+            | inl known ↦ h.standing edge known
+            | inr apart ↦ elim (added.standing edge stands) [
+              | inl known ↦ h.standing edge known
+              | inr here ↦ inr (
+                here.1,
+                subst (λ k. Each (IsUnasked cell edge) (take k recipes)) (sym here.0)
+                    (unasked cell set.edges.items edge apart (take index recipes) (h.covering set.edges.items (λ i j known. known))),
+              )
+            ]
+          ];
           covering = λ final later.
               subst (λ (rs : List Recipe). CoversRecipes cell rs final) (sym more)
               (Each-append (OfNodes cell (Covers cell final)) (take index recipes) (recipe ∷ [])
@@ -63,12 +90,16 @@ module _ (cell : Cell) (recipes : List Recipe) where
   -- the edges of all recipes, where there were none before
   pub edges_of_all : (kept : Option (List (Option ℕ))) (old set : EdgeSet) → old.edges.items ≡ [] → AreAdded cell kept recipes recipes old set → AreEdgesOf cell recipes set.edges.items
   edges_of_all kept old set empty h = record {
-    standing = λ k e in'. elim (h.standing (get_or set.edges.items k e) (Contains-get_or set.edges.items k e in')) [
-      | inl known ↦ absurd (Contains-none (get_or set.edges.items k e) (subst (λ (es : List Edge). Contains es (get_or set.edges.items k e)) empty known))
-      | inr here ↦ here
-    ];
+    standing = λ k e in'. (both k e in').0;
+    first = λ k e in'. (both k e in').1;
     covering = h.covering set.edges.items (λ i j known. known);
   }
+    where
+      both : All (λ edge. EdgeStands cell recipes edge × IsOfFirst cell recipes edge) set.edges.items
+      both k e in' = elim (h.standing (get_or set.edges.items k e) (Contains-get_or set.edges.items k e in')) [
+        | inl known ↦ absurd (Contains-none (get_or set.edges.items k e) (subst (λ (es : List Edge). Contains es (get_or set.edges.items k e)) empty known))
+        | inr here ↦ here
+      ]
 
   -- edges that stand may be added
   pub edges_with : (old new : EdgeSet) (circle : List Edge) → AreEdgesOf cell recipes old.edges.items → All (EdgeStands cell recipes) circle → HasTaken circle old new
@@ -78,6 +109,12 @@ module _ (cell : Cell) (recipes : List Recipe) where
       | inl known ↦ All-contains (EdgeStands cell recipes) old.edges.items (get_or new.edges.items k e) h.standing known
       | inr added ↦ All-contains (EdgeStands cell recipes) circle (get_or new.edges.items k e) standing added
     ];
+    first = λ k e in'.
+        let edge = get_or new.edges.items k e in
+        elim (taken.grown.fresh edge (Contains-get_or new.edges.items k e in')) [
+          | inl known ↦ All-contains (IsOfFirst cell recipes) old.edges.items edge h.first known
+          | inr apart ↦ Each-take (IsUnasked cell edge) edge.recipe recipes (unasked cell old.edges.items edge apart recipes h.covering)
+        ];
     covering = covers_more cell old.edges.items new.edges.items taken.grown.kept recipes h.covering;
   }
 
@@ -87,7 +124,7 @@ module _ (cell : Cell) (recipes : List Recipe) where
     grown = h.grown;
     standing = λ edge stands. elim (h.standing edge stands) [
       | inl known ↦ All-contains (EdgeStands cell recipes) old.edges.items edge edges.standing known
-      | inr here ↦ here
+      | inr here ↦ here.0
     ];
     whole = λ edge stands. pair_stands cell recipes set.edges.items (h.pairing refl set.edges.items (λ i j known. known)) edge stands;
   }
@@ -105,7 +142,7 @@ IsTakenAt site t edge others = (i j : ℕ) → resource_on site t edge.earlier �
 -- below `done`, those that join it and one behind it, for each two candidates
 pub record KeepsBindings (site : Site) (number : ℕ) (collected of_roles : List Edge) (alikes done : ℕ) (old set : EdgeSet) : Type 0 where
   pub grown : Grows old set
-  pub standing : (all : List Recipe) → slice_get all number ≡ Some site.recipe.now → (edge : Edge) → Contains set.edges.items edge → Contains old.edges.items edge ⊎ EdgeStands site.cell.now all edge
+  pub standing : (all : List Recipe) → slice_get all number ≡ Some site.recipe.now → (edge : Edge) → Contains set.edges.items edge → Contains old.edges.items edge ⊎ StandsIn site.cell.now all number edge
   pub first : (edge : Edge) → Contains collected edge → IsTakenAt site (alike 0) edge set.edges.items
   pub taken_alike : (k : ℕ) → k < alikes → (edge : Edge) → Contains of_roles edge → IsTakenAt site (alike k) edge set.edges.items
   pub taken_apart : (k : ℕ) → resource_count site ≤ k → k < done → (role : Role) → slice_get site.recipe.now.roles.items (k - resource_count site) ≡ Some role
@@ -128,23 +165,25 @@ module _ (site : Site) (kept : Option (List (Option ℕ))) (number : ℕ) (colle
 
   -- an edge that was added as it is stands
   stands_then : (t : Taking) (from : Edge) → Contains collected from → (edge : Edge) → IsTakenAs resources (units_on site t) from edge → (all : List Recipe) → slice_get all number ≡ Some recipe
-      → EdgeStands cell all edge
+      → StandsIn cell all number edge
   stands_then t from among edge is all found =
       let on = is_collected.standing from among in
-      let here = on.asked t edge.earlier edge.later is.earlier_is is.later_is in
-      record {
-        recipe = recipe;
-        found = ap (slice_get all) (is.recipe_is ∙ on.recipe_is) ∙ found;
-        bound = bound_on site t;
-        tried = taken-tried cell (recipe ∷ []) recipe recipe.own_roles t;
-        node = here.node;
-        numbered = ap (slice_get (nodes_on site t)) is.node_is ∙ here.numbered;
-        asked = here.asked;
-      }
+      let here = on.asked t edge.earlier edge.later is.earlier_is is.later_is in (
+        is.recipe_is ∙ on.recipe_is,
+        record {
+          recipe = recipe;
+          found = ap (slice_get all) (is.recipe_is ∙ on.recipe_is) ∙ found;
+          bound = bound_on site t;
+          tried = taken-tried cell (recipe ∷ []) recipe recipe.own_roles t;
+          node = here.node;
+          numbered = ap (slice_get (nodes_on site t)) is.node_is ∙ here.numbered;
+          asked = here.asked;
+        },
+      )
 
   -- the same of some that were added
   all_stand : (t : Taking) (some : List Edge) → ((edge : Edge) → Contains some edge → Contains collected edge) → (set new : EdgeSet) → set.count ≡ resources → HasTakenBy (units_on site t) some set new
-      → (all : List Recipe) → slice_get all number ≡ Some recipe → (edge : Edge) → Contains new.edges.items edge → Contains set.edges.items edge ⊎ EdgeStands cell all edge
+      → (all : List Recipe) → slice_get all number ≡ Some recipe → (edge : Edge) → Contains new.edges.items edge → Contains set.edges.items edge ⊎ StandsIn cell all number edge
   all_stand t some among set new count_is has all found edge stands = elim (has.only edge stands) [
     | inl known ↦ inl known
     | inr taken ↦ inr (stands_then t taken.0 (among taken.0 taken.1) edge (subst (λ count. IsTakenAs count (units_on site t) taken.0 edge) count_is taken.2) all found)
@@ -204,7 +243,7 @@ module _ (site : Site) (kept : Option (List (Option ℕ))) (number : ℕ) (colle
           ∙ (ap (λ (xs : List (Option ℕ)). raised place (units_by cell roles (alike own)) xs) (are_units.each other p other_at)
           ∙ raised_is cell roles (differ cell (recipe ∷ []) recipe recipe.own_roles) place role at own other)
 
-      stands_raised : (all : List Recipe) → slice_get all number ≡ Some recipe → (edge : Edge) → IsRaised place set.count units units behind edge → EdgeStands cell all edge
+      stands_raised : (all : List Recipe) → slice_get all number ≡ Some recipe → (edge : Edge) → IsRaised place set.count units units behind edge → StandsIn cell all number edge
       stands_raised all found edge r =
           let o = at-Contains units r.own r.among_owns in
           let p = at-Contains units r.other r.among_others in
@@ -351,7 +390,7 @@ module _ (site : Site) (kept : Option (List (Option ℕ))) (number : ℕ) (colle
     ]
 
   pub added_all : (alikes done : ℕ) (set : EdgeSet) → binding_count cell roles ≤ alikes → count_with_roles site ≤ done → KeepsBindings site number collected of_roles alikes done old set
-      → (all : List Recipe) → slice_get all number ≡ Some recipe → IsAdded cell kept all recipe old set
+      → (all : List Recipe) → slice_get all number ≡ Some recipe → IsAdded cell kept all number recipe old set
   added_all alikes done set all_alike all_done h all found = record {
     grown = h.grown;
     standing = h.standing all found;

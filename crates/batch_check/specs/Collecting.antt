@@ -14,7 +14,7 @@ use Rattle.batch_check.specs.declared.edge_set.EdgeSet.{EdgeSet}
 use Rattle.batch_check.specs.declared.path.Path.{Path}
 use Rattle.batch_check.specs.declared.path.Reach.{Reach}
 use Rattle.batch_check.specs.declared.path.Reach.TheVariants.{Next, Whole}
-use Rattle.batch_check.specs.Edges.{AsksByNumber, CoversRecipes, OfNodes, EdgeStands, has_pair, numbers_of_resources, Follows, Covers}
+use Rattle.batch_check.specs.Edges.{AsksByNumber, CoversRecipes, OfNodes, EdgeStands, IsOfFirst, has_pair, numbers_of_resources, Follows, Covers}
 use Rattle.batch_check.specs.Joining.{AreBelow, Grows, items_in, needs_in}
 use Rattle.batch_check.specs.Pairs.{ArePaired, Keeps}
 use Rattle.batch_check.specs.Sites.{nodes_on, resource_count, resource_on, units_on}
@@ -187,22 +187,26 @@ pub record IsCollected (site : Site) (kept : Option (List (Option ℕ))) (recipe
 
 -- Recipes
 
+-- the edge stands in the recipe with this number
+abbrev pub StandsIn : Cell → List Recipe → ℕ → Edge → Type 0
+StandsIn cell recipes number edge = (edge.recipe ≡ number) × EdgeStands cell recipes edge
+
 -- each two resources on a path of the recipe are an edge, whatever units take its roles
 abbrev pub PairsRecipe : Cell → List Edge → Recipe → Type 0
 PairsRecipe cell edges recipe = OfNodes cell (PairsAll cell edges) recipe
 
--- the edges of the recipe were collected: each new edge stands in one of all recipes, and whatever edges come later, its nodes are
+-- the edges of the recipe with this number were collected: each new edge stands in it, and whatever edges come later, its nodes are
 -- covered, and their needs paired where needs are kept
-pub record IsAdded (cell : Cell) (kept : Option (List (Option ℕ))) (recipes : List Recipe) (recipe : Recipe) (old new : EdgeSet) : Type 0 where
+pub record IsAdded (cell : Cell) (kept : Option (List (Option ℕ))) (recipes : List Recipe) (number : ℕ) (recipe : Recipe) (old new : EdgeSet) : Type 0 where
   pub grown : Grows old new
-  pub standing : (edge : Edge) → Contains new.edges.items edge → Contains old.edges.items edge ⊎ EdgeStands cell recipes edge
+  pub standing : (edge : Edge) → Contains new.edges.items edge → Contains old.edges.items edge ⊎ StandsIn cell recipes number edge
   pub covering : (final : List Edge) → Keeps new.edges.items final → OfNodes cell (Covers cell final) recipe
   pub pairing : kept ≡ Some [] → (final : List Edge) → Keeps new.edges.items final → PairsRecipe cell final recipe
 
--- so those of some recipes
+-- so those of some recipes; each new edge is of the first recipe
 pub record AreAdded (cell : Cell) (kept : Option (List (Option ℕ))) (recipes some : List Recipe) (old new : EdgeSet) : Type 0 where
   pub grown : Grows old new
-  pub standing : (edge : Edge) → Contains new.edges.items edge → Contains old.edges.items edge ⊎ EdgeStands cell recipes edge
+  pub standing : (edge : Edge) → Contains new.edges.items edge → Contains old.edges.items edge ⊎ (EdgeStands cell recipes edge × IsOfFirst cell recipes edge)
   pub covering : (final : List Edge) → Keeps new.edges.items final → CoversRecipes cell some final
   pub pairing : kept ≡ Some [] → (final : List Edge) → Keeps new.edges.items final → Each (PairsRecipe cell final) some
 

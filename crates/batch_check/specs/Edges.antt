@@ -1,5 +1,5 @@
 -- trusted: edges that stand in recipes, and edges that cover the paths of recipes.
-use Rattle.std.specs.Prelude.{◌≡◌, ℕ, ◌+◌, ◌<◌, ◌≤◌, List, [], ◌∷◌, ◌&&◌, Bool, IsTrue, length, map, nat_eq, position, slice_get, Option, Some, None, ⊤}
+use Rattle.std.specs.Prelude.{◌≡◌, ℕ, ◌+◌, ◌<◌, ◌≤◌, List, [], ◌∷◌, ◌&&◌, Bool, IsTrue, length, map, nat_eq, position, slice_get, take, Option, Some, None, ⊤}
 use Rattle.std.specs.List.{All, list_any}
 use Rattle.batch_cell.specs.LookUps.{resources_of}
 use Rattle.batch_cell.specs.declared.cell.Cell.{Cell}
@@ -87,7 +87,20 @@ OfNodes cell Is recipe = (bound : Binding) → AreTried cell recipe bound → Ea
 abbrev pub CoversRecipes : Cell → List Recipe → List Edge → Type 0
 CoversRecipes cell recipes edges = Each (OfNodes cell (Covers cell edges)) recipes
 
--- edges that stand for the orders in which the recipes ask
+-- The first recipe
+
+-- the path to the node asks for the one resource right after the other
+pub record AsksNext (cell : Cell) (node : Node) (earlier later : ℕ) : Type 0 where
+  pub place : ℕ
+  pub earlier_is : slice_get (numbers_of_resources cell node.asked) place ≡ Some (Some earlier)
+  pub later_is : slice_get (numbers_of_resources cell node.asked) (place + 1) ≡ Some (Some later)
+
+-- no recipe before that of the edge asks so for its resources, whatever units take its roles
+abbrev pub IsOfFirst : Cell → List Recipe → Edge → Type 0
+IsOfFirst cell recipes edge = Each (OfNodes cell (λ node. ¬ (AsksNext cell node edge.earlier edge.later))) (take edge.recipe recipes)
+
+-- edges that stand for the orders in which the recipes ask; of several recipes that ask in one order, the first is told
 pub record AreEdgesOf (cell : Cell) (recipes : List Recipe) (edges : List Edge) : Type 0 where
   pub standing : All (EdgeStands cell recipes) edges
+  pub first : All (IsOfFirst cell recipes) edges
   pub covering : CoversRecipes cell recipes edges

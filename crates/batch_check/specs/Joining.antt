@@ -12,6 +12,8 @@ pub record Grows (old new : EdgeSet) : Type 0 where
   pub same_count : new.count ≡ old.count
   pub kept : Keeps old.edges.items new.edges.items
   pub stays : (edge : Edge) → Contains old.edges.items edge → Contains new.edges.items edge
+  -- a new edge leads where none led
+  pub fresh : (edge : Edge) → Contains new.edges.items edge → Contains old.edges.items edge ⊎ ¬ (IsTrue (has_pair old.edges.items edge.earlier edge.later))
 
 -- the needs that are kept, as a list
 abbrev pub items_in : Option Asked → Option (List (Option ℕ))

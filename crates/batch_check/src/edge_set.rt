@@ -51,6 +51,8 @@ impl EdgeSet {
         ensures kept { Keeps self.old.edges.items self.new.edges.items }
         ensures stays { (e : Edge) → Contains self.old.edges.items e → Contains self.new.edges.items e }
         ensures only { (e : Edge) → Contains self.new.edges.items e → Contains self.old.edges.items e ⊎ (e ≡ edge) }
+        ensures fresh { (e : Edge) → Contains self.new.edges.items e
+            → Contains self.old.edges.items e ⊎ ¬ (IsTrue (has_pair self.old.edges.items e.earlier e.later)) }
     {
         let pair = usize::from(edge.later) * ROW + usize::from(edge.earlier);
         let word = pair / 64;

@@ -93,7 +93,7 @@ fn add_edges(
     requires sized { edges.old.count ≡ length (resources_of cell.now) }
     requires linked { IsLinkedIn cell.now recipe.now linked.now }
     ensures { OnOk result ((recipes : List Recipe) → slice_get recipes number ≡ Some recipe.now
-        → IsAdded cell.now (kept_at_top reach) recipes recipe.now edges.old edges.new) }
+        → IsAdded cell.now (kept_at_top reach) recipes number recipe.now edges.old edges.new) }
 {
     let site = Site { cell, recipe };
     let collected = collect(alloc, &site, linked, number, reach)?;

@@ -1,8 +1,8 @@
 -- The rules that nodes break whatever units take the roles, by number.
-use Rattle.std.proofs.Common.{◌≡◌, ◌≢◌, ◌⊎◌, ℕ, suc, ◌+◌, ◌<◌, ◌≤◌, List, [], ◌∷◌, ◌++◌, length, Option, Some, None, slice_get, get_or, sym, ap, ◌∙◌, refl, subst, arith, inl, inr, length-append}
+use Rattle.std.proofs.Common.{◌≡◌, ◌≢◌, ◌⊎◌, ℕ, suc, true, false, ◌+◌, ◌<◌, ◌≤◌, List, [], ◌∷◌, ◌++◌, length, Option, Some, None, slice_get, get_or, sym, ap, ◌∙◌, refl, subst, arith, inl, inr, length-append}
 use Rattle.std.proofs.lemmas.{Bool.cases_lt, Option.slice_get_within, Option.slice_get-get_or}
-use Rattle.batch_recipe.{specs.Expanding.Binding, specs.Expanding.unbound, specs.Expanding.reserves_from, specs.Expanding.unit_count, specs.ActsAtNodes.IsNoAct, specs.Conditions.Name, specs.Links.form_at, specs.Nodes.Node, specs.Nodes.reserves_of, specs.Outlines.act_of_kind, specs.Outlines.form_of, specs.Procedure.bound_nodes, specs.Procedure.procedure_nodes, specs.Procedure.sites, specs.Tree.Tree, specs.declared.act.Act.Act, specs.declared.acts.Acts.Acts, specs.declared.entry.Entry.Entry, specs.declared.recipe.Recipe.Recipe, proofs.NodesAbove.as_many, proofs.AppendedLists.slice_get-left, proofs.AppendedLists.slice_get-right}
-use Rattle.batch_model.specs.Cleared.{Level, Part, below, IsApart}
+use Rattle.batch_recipe.{specs.Expanding.Binding, specs.Expanding.unbound, specs.Expanding.reserves_from, specs.Expanding.unit_count, specs.ActsAtNodes.IsNoAct, specs.Conditions.Name, specs.Links.form_at, specs.Nodes.Node, specs.Nodes.reserves_of, specs.Outlines.a_loop, specs.Outlines.act_of_kind, specs.Outlines.form_of, specs.Procedure.bound_nodes, specs.Procedure.procedure_nodes, specs.Procedure.sites, specs.Tree.Tree, specs.Tree.loop, specs.declared.act.Act.Act, specs.declared.acts.Acts.Acts, specs.declared.condition.Condition.Condition, specs.declared.entry.Entry.Entry, specs.declared.recipe.Recipe.Recipe, proofs.NodesAbove.as_many, proofs.AppendedLists.slice_get-left, proofs.AppendedLists.slice_get-right}
+use Rattle.batch_model.specs.Cleared.{Level, is_procedure, in_procedure, in_unit_procedure, in_operation, Part, below, surely_runs, IsApart, TurnsRun}
 use Rattle.batch_verify.{specs.Charts.depth_is, specs.Charts.of_chart, specs.Charts.reserve_count, specs.Charts.AreFaults, specs.Charts.IsChartFault, specs.Charts.ReservesAs, specs.Ways.Spot, specs.Ways.Way, specs.Ways.bound_parts, specs.Ways.bound_ways, specs.declared.depth.Depth.Depth, specs.declared.depth.Depth.TheVariants.Procedure, specs.declared.rule.Rule.Rule, proofs.PhasesInBindings.IsLike, proofs.PhasesInBindings.apart_as, proofs.PhasesInBindings.turns_as, proofs.PhasesInBindings.part_alike, proofs.EntryNodes.IsTop, proofs.EntryNodes.IsBelow, proofs.EntryNodes.Stands, proofs.EntryNodes.stands, proofs.EntryNodes.node_of, proofs.Verdicts.bare_reserves, proofs.WayActs.IsHereOn}
 use Rattle.batch_verify.specs.declared.rule.Rule.TheVariants as rules
 
@@ -136,6 +136,23 @@ module _ (r : Recipe) where
           h.reserve k fault f_is bound x.node (node_of r bound k x x_is),
         );
   }
+
+-- A loop.
+
+beside_par : (l : Level) (turns : ℕ) (until : Condition) (body : Tree) → IsApart l (loop turns until body)
+beside_par is_procedure turns until body = tt
+beside_par in_procedure turns until body = tt
+beside_par in_unit_procedure turns until body = tt
+beside_par in_operation turns until body = tt
+
+-- whether its turns run a phase is whether it surely runs one
+pub loop_runs : (l : Level) (t : Tree) → a_loop ≡ form_at t → true ≡ surely_runs t → IsApart l t × TurnsRun t
+loop_runs l (loop turns until body) formed runs = (beside_par l turns until body, sym runs)
+loop_runs l t formed runs = absurd cc
+
+pub loop_fault : (l : Level) (t : Tree) → a_loop ≡ form_at t → false ≡ surely_runs t → IsApart l t × ¬ (TurnsRun t)
+loop_fault l (loop turns until body) formed runs = (beside_par l turns until body, λ run. let bad : true ≡ false = sym run ∙ sym runs in absurd cc)
+loop_fault l t formed runs = absurd cc
 
 -- As many unit procedures are reserved by a node as by its act.
 

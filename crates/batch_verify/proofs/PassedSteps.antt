@@ -2,15 +2,10 @@
 use Rattle.std.proofs.Common.{◌≡◌, ◌≢◌, ◌⊎◌, ◌<◌, ◌≤◌, ℕ, List, length, Option, Some, None, get_or, replicate, set, sym, ap, ◌∙◌, subst, arith, inl, inr}
 use Rattle.std.proofs.lemmas.{Bool.cases_eq, Bool.cases_lt, List.get_or-replicate, List.get_or-set_other, List.get_or-set_same, List.get_or_past, List.length-replicate, List.length-set}
 use Rattle.batch_cell.specs.declared.cell.Cell as equipment
-use Rattle.batch_recipe.specs.{Outlines.act_of_kind, declared.act.Act.Act, declared.acts.LabelTable.TheVariants.Phases, declared.entry.Kind.Kind, declared.role.Role.Role}
+use Rattle.batch_recipe.specs.{Outlines.act_of_kind, declared.act.Act.Act, declared.acts.Acts.Acts, declared.acts.LabelTable.TheVariants.Phases, declared.entry.Kind.Kind, declared.role.Role.Role}
 use Rattle.batch_recipe.specs.declared.entry.Kind.TheVariants as kind
-use Rattle.batch_recipe.specs.declared.recipe.Recipe as document
 use Rattle.batch_set.specs.{Looked.needs_by, declared.linked.LinkedNeed.LinkedNeed, declared.linked.LinkedRecipe.LinkedRecipe, declared.linked.Source.Source}
-use Rattle.batch_verify.specs.{PassedSteps.Allows, PassedSteps.passed_at, PassedSteps.with_passed, Spans.ComesBelow, Spans.IsAtMost, Spans.IsPassed, declared.passed.Passed.Passed, declared.span.Span.Span}
-
--- P holds of the spans noted for each act
-abbrev pub AreNoted : (Kind → Passed → Type 0) → List (Option Passed) → Type 0
-AreNoted P passed = (k : Kind) (p : Passed) → passed_at passed k ≡ Some p → P k p
+use Rattle.batch_verify.specs.{PassedSteps.Allows, PassedSteps.AreNoted, PassedSteps.HasPassed, PassedSteps.IsKnownBelow, PassedSteps.with_passed, Spans.ComesBelow, Spans.IsAtMost, Spans.IsPassed, declared.passed.Passed.Passed, declared.span.Span.Span}
 
 module _ (P : Kind → Passed → Type 0) where
   -- at first none are noted
@@ -46,10 +41,6 @@ module _ (P : Kind → Passed → Type 0) where
       at _ q known = let bad : None ≡ Some q = known in absurd cc
   AreNoted-with passed _ p h is = h
 
--- the act of the kind passes on these spans
-abbrev pub HasPassed : equipment.Cell → Option (List ℕ) → document.Recipe → LinkedRecipe → List (Option ℕ) → List (Option ℕ) → Kind → Passed → Type 0
-HasPassed c ranks r linked lowest highest k p = (a : Act) → act_of_kind r.acts k ≡ Some a → IsPassed c ranks r.roles.items lowest highest (needs_by linked k) a p.above p.within
-
 at_most : (a b c : Option ℕ) → IsAtMost a b → IsAtMost b c → IsAtMost a c
 at_most None b c f g = tt
 at_most (Some a) (Some b) (Some c) f g = omega (arith, f, g)
@@ -64,3 +55,11 @@ IsPassed-allowed c ranks roles lowest highest links a p above allows h = record 
   asked = λ takers between before most. h.asked takers between before (at_most before above.last p.above.last most allows.last);
   offered = h.offered;
 }
+
+-- the act passes from the span that is known, and goes on as it did
+pub IsPassed-known : (c : equipment.Cell) (ranks : Option (List ℕ)) (roles : List Role) (acts : Acts) (linked : LinkedRecipe) (lowest highest : List (Option ℕ)) (passed : List (Option Passed)) (k : Kind) (above within : Span)
+    → AreNoted (HasPassed c ranks roles acts linked lowest highest) passed → IsKnownBelow passed k above within → (a : Act) → act_of_kind acts k ≡ Some a
+    → IsPassed c ranks roles lowest highest (needs_by linked k) a above within
+IsPassed-known c ranks roles acts linked lowest highest passed k above within noted known a is =
+    subst (IsPassed c ranks roles lowest highest (needs_by linked k) a above) (sym known.is)
+    (IsPassed-allowed c ranks roles lowest highest (needs_by linked k) a known.spans above known.allows (noted k known.spans known.noted a is))

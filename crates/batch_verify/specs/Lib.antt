@@ -13,6 +13,7 @@ pub mod Ranked
 pub mod Refusals
 pub mod RunningNodes
 pub mod Spans
+pub mod Trees
 pub mod Trials
 pub mod Verifying
 pub mod Walking

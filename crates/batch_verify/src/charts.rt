@@ -1,17 +1,17 @@
 //! The rules on `par`s, loops and reserved unit procedures. They don't depend on the units that take the roles.
-ghost use Rattle.std.specs.Prelude.{◌≡◌, ◌≢◌, ◌≤◌, length, slice_get, Some, None, IfOk};
+ghost use Rattle.std.specs.Prelude.{◌≡◌, ◌≢◌, ◌<◌, ◌≤◌, length, slice_get, Some, None, IfOk};
 ghost use Rattle.batch_recipe.specs.Nodes.{Node};
 ghost use Rattle.batch_recipe.specs.Outlines.{act_of_kind, form_of};
 ghost use Rattle.batch_recipe.specs.Links.{form_at};
-ghost use Rattle.batch_model.specs.Cleared.{below, surely_runs, Part};
+ghost use Rattle.batch_recipe.specs.Procedure.{procedure_nodes};
+ghost use Rattle.batch_model.specs.Cleared.{below, Part};
 ghost use Rattle.batch_verify.specs.Charts.{depth_is, of_chart, reserve_count, AreFaults, IsChartFault, ReservesAs};
-ghost use Rattle.batch_verify.specs.PhaseSets.{AreApartAs};
+ghost use Rattle.batch_verify.specs.Trees.{IsKnown};
 
 use crate::depth::Depth;
 use crate::reserve_faults::reserves_follow;
 use crate::rule::Rule;
-use crate::running_nodes::running_nodes;
-use crate::tree_phases::tree_phases;
+use crate::trees::Trees;
 use batch_recipe::{Acts, Entry, Kind, Recipe};
 use std::alloc::{AllocError, Global};
 
@@ -37,32 +37,42 @@ fn depth_below(acts: &Acts, entry: &Entry, depth: Depth) -> Depth
     }
 }
 
-/// The rule that a node breaks as a `par` or a loop: by its kind, its level, whether its branches run apart, and whether it surely runs a
-/// phase.
-fn chart_fault(kind: Kind, depth: Depth, apart: bool, runs: bool) -> Option<Rule>
-    ensures { (x : Node) → form_of kind ≡ form_at x.here → AreApartAs x.here apart → runs ≡ surely_runs x.here
-        → IsChartFault (record { level = depth_is depth; node = x }) result }
+/// The rule that the node with this number breaks as a `par` or a loop: by its kind, its level, whether its branches run apart, and
+/// whether it surely runs a phase.
+fn chart_fault(
+    alloc: Global,
+    recipe: &Recipe,
+    node: u16,
+    kind: Kind,
+    depth: Depth,
+    trees: &mut Trees,
+) -> Result<Option<Rule>, AllocError>
+    requires known { IsKnown recipe.now trees.old }
+    requires node { node < length (procedure_nodes recipe.now.acts) }
+    ensures known { IsKnown recipe.now trees.new }
+    ensures fault { IfOk result (λ fault. (x : Node) → slice_get (procedure_nodes recipe.now.acts) node ≡ Some x → form_of kind ≡ form_at x.here
+        → IsChartFault (record { level = depth_is depth; node = x }) fault) }
 {
     match kind {
         Kind::Par => match depth {
             Depth::InOperation => {
-                if apart {
-                    None
+                if trees.are_apart(alloc, recipe, node)? {
+                    Ok(None)
                 } else {
-                    Some(Rule::SamePhaseInParallel)
+                    Ok(Some(Rule::SamePhaseInParallel))
                 }
             }
-            Depth::Procedure | Depth::InProcedure | Depth::InUnitProcedure => None,
+            Depth::Procedure | Depth::InProcedure | Depth::InUnitProcedure => Ok(None),
         },
         // Every way through a loop runs a phase just where every way through its body does.
         Kind::Loop(_) => {
-            if runs {
-                None
+            if trees.surely_run(alloc, recipe, node)? {
+                Ok(None)
             } else {
-                Some(Rule::LoopWithoutPhase)
+                Ok(Some(Rule::LoopWithoutPhase))
             }
         }
-        Kind::Skip | Kind::Procedure | Kind::Act(..) | Kind::Seq | Kind::Sel => None,
+        Kind::Skip | Kind::Procedure | Kind::Act(..) | Kind::Seq | Kind::Sel => Ok(None),
     }
 }
 
@@ -97,16 +107,15 @@ fn reserve_fault(recipe: &Recipe, entry: &Entry, node: u16, chart: Option<Rule>)
 pub(crate) fn chart_faults(alloc: Global, recipe: &Recipe) -> Result<Vec<Option<Rule>>, AllocError>
     ensures { IfOk result (λ faults. AreFaults recipe.now.acts faults.items) }
 {
-    let trees = tree_phases(alloc, recipe)?;
-    let runs = running_nodes(alloc, recipe)?;
+    let mut trees = Trees::new();
     let nodes = recipe.outline.entries.len();
     let mut below = Vec::with_capacity(alloc, nodes)?;
     let mut faults = Vec::with_capacity(alloc, nodes)?;
     for entry in &recipe.outline.entries {
         let depth = depth_above(&below, entry);
-        let node = faults.len();
-        let chart = chart_fault(entry.kind, depth, trees[node].apart, runs[node]);
-        faults.push(reserve_fault(recipe, entry, node as u16, chart))?;
+        let node = faults.len() as u16;
+        let chart = chart_fault(alloc, recipe, node, entry.kind, depth, &mut trees)?;
+        faults.push(reserve_fault(recipe, entry, node, chart))?;
         below.push(depth_below(&recipe.acts, entry, depth))?;
     }
     Ok(faults)

@@ -25,6 +25,7 @@ mod running_nodes;
 mod site;
 mod span;
 mod tree_phases;
+mod trees;
 mod trial;
 mod walk;
 

@@ -1,6 +1,6 @@
 //! The spans on which phase steps passed.
-ghost use Rattle.std.specs.Prelude.{◌≡◌, true};
-ghost use Rattle.batch_verify.specs.PassedSteps.{passed_at, with_passed, Allows};
+ghost use Rattle.std.specs.Prelude.{◌≡◌, true, IfSome};
+ghost use Rattle.batch_verify.specs.PassedSteps.{with_passed, Allows, IsKnownBelow};
 ghost use Rattle.batch_verify.specs.Spans.{IsAtMost};
 
 use crate::span::Span;
@@ -14,16 +14,16 @@ pub(crate) struct Passed {
     pub(crate) within: Span,
 }
 
-/// The spans noted for the act. `passed` has those of phase steps, by number; other acts have none. Many nodes are of one phase step,
-/// mostly below one unit or role.
-pub(crate) fn passed_at(passed: &[Option<Passed>], kind: Kind) -> Option<Passed>
-    ensures { result ≡ passed_at passed.now kind }
+/// The span below the node of the act, if one is noted that its act has below this span. `passed` has the spans of phase steps, by
+/// number; other acts have none. Many nodes are of one phase step, mostly below one unit or role.
+pub(crate) fn known_below(passed: &[Option<Passed>], kind: Kind, above: Span) -> Option<Span>
+    ensures { IfSome result (IsKnownBelow passed.now kind above) }
 {
-    match kind {
-        Kind::Act(LabelTable::Phases, number) => match passed.get(number) {
-            None => None,
-            Some(spans) => *spans,
-        },
+    let Kind::Act(LabelTable::Phases, number) = kind else {
+        return None;
+    };
+    match passed.get(number) {
+        Some(Some(spans)) if allows(spans, above) => Some(spans.within),
         _ => None,
     }
 }
@@ -41,8 +41,8 @@ pub(crate) fn note_passed(passed: &mut [Option<Passed>], kind: Kind, spans: Pass
 
 /// Whether an act that passed on these spans also passes from this one: the source of the unit is the same, and the last rank is no
 /// greater.
-pub(crate) fn allows(passed: Passed, above: Span) -> bool
-    ensures { result ≡ true → Allows passed above }
+fn allows(passed: &Passed, above: Span) -> bool
+    ensures { result ≡ true → Allows passed.now above }
 {
     is_same(passed.above.unit, above.unit) && is_at_most(above.last, passed.above.last)
 }

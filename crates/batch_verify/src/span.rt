@@ -11,13 +11,12 @@ ghost use Rattle.batch_set.specs.Linking.{IsLinkedIn};
 ghost use Rattle.batch_set.specs.Looked.{needs_by};
 ghost use Rattle.batch_verify.specs.Charts.{AreFaults};
 ghost use Rattle.batch_verify.specs.Refusals.{IsVerdict, ranking_in};
-ghost use Rattle.batch_verify.specs.PassedSteps.{Allows};
+ghost use Rattle.batch_verify.specs.PassedSteps.{AreNotedAt};
 ghost use Rattle.batch_verify.specs.Spans.{AreAskedInEach, ClassOffers, ComesBelow, GivesUnits, IsPassed, PhaseOffered, SourceOffers, no_span};
-ghost use Rattle.batch_verify.specs.declared.passed.Passed as passed;
 ghost use Rattle.batch_verify.specs.declared.span.Span as span;
 
 use crate::asking::{check_need, number_by, resource_by, unit_from};
-use crate::passed::{Passed, allows, note_passed, passed_at};
+use crate::passed::{Passed, known_below, note_passed};
 use crate::rising::{rank_by, rise};
 use crate::rule::Rule;
 use crate::site::Site;
@@ -63,16 +62,15 @@ pub(crate) fn is_clear(
     let mut spans = Vec::with_capacity(alloc, recipe.outline.entries.len())?;
     let mut passed = vec![in alloc; None; recipe.acts.phases.len()]?;
     for entry in &recipe.outline.entries {
-        let known = passed_at(&passed, entry.kind);
-        let above = span_above(&spans, entry);
-        let fault = faults[spans.len()];
-        match span_below(&low, &highest, &recipe.roles, entry, fault, known, above) {
-            None => return Ok(false),
-            Some(own) => {
-                note_passed(&mut passed, entry.kind, own);
-                spans.push(own.within)?;
-            }
+        if faults[spans.len()].is_some() {
+            return Ok(false);
         }
+        let above = span_above(&spans, entry);
+        let Some(within) = span_below(&low, &highest, &recipe.roles, entry, &mut passed, above)
+        else {
+            return Ok(false);
+        };
+        spans.push(within)?;
     }
     Ok(true)
 }
@@ -91,41 +89,32 @@ fn span_above(spans: &[Span], entry: &Entry) -> Span
     }
 }
 
-/// The spans of the path above and below the node, or those that are known of its act if they allow the span above it. None where the
-/// node may break a rule.
+/// The span of the path below the node: the one that is noted of its act, if there is one for this span above it. None where the act may
+/// break a rule.
 fn span_below(
     low: &Site,
     highest: &[Option<u16>],
     roles: &[Role],
     entry: &Entry,
-    fault: Option<Rule>,
-    known: Option<Passed>,
+    passed: &mut [Option<Passed>],
     above: Span,
-) -> Option<Passed>
-    requires { (a : act.Act) (spans : passed.Passed) → act_of_kind low.now.acts.now entry.now.kind ≡ Some a → known ≡ Some spans
-        → IsPassed low.now.cell.now (option_copied low.now.ranks) roles.now low.now.takers.now highest.now (needs_by low.now.linked.now entry.now.kind) a spans.above spans.within }
-    ensures fault { IfSome result (λ spans. fault ≡ None) }
-    ensures act { IfSome result (λ spans. (a : act.Act) → act_of_kind low.now.acts.now entry.now.kind ≡ Some a
-        → Allows spans above × IsPassed low.now.cell.now (option_copied low.now.ranks) roles.now low.now.takers.now highest.now (needs_by low.now.linked.now entry.now.kind) a spans.above spans.within) }
-    ensures chart { act_of_kind low.now.acts.now entry.now.kind ≡ None → IfSome result (λ spans. spans.within ≡ above) }
+) -> Option<Span>
+    requires { AreNotedAt low.now roles.now highest.now passed.old }
+    ensures noted { AreNotedAt low.now roles.now highest.now passed.new }
+    ensures act { IfSome result (λ within. (a : act.Act) → act_of_kind low.now.acts.now entry.now.kind ≡ Some a
+        → IsPassed low.now.cell.now (option_copied low.now.ranks) roles.now low.now.takers.now highest.now (needs_by low.now.linked.now entry.now.kind) a above within) }
+    ensures chart { act_of_kind low.now.acts.now entry.now.kind ≡ None → IfSome result (λ within. within ≡ above) }
 {
-    if fault.is_some() {
-        return None;
-    }
     let Some(act) = entry.kind.act(low.acts) else {
-        return Some(Passed {
-            above,
-            within: above,
-        });
+        return Some(above);
     };
-    if let Some(spans) = known
-        && allows(spans, above)
-    {
-        return Some(spans);
+    if let Some(within) = known_below(passed, entry.kind, above) {
+        return Some(within);
     }
     let needs = low.linked.needs(entry.kind);
     let within = span_within(low, highest, roles, act, needs, above)?;
-    Some(Passed { above, within })
+    note_passed(passed, entry.kind, Passed { above, within });
+    Some(within)
 }
 
 /// The span of the path below the act with these needs. None where the act may break a rule.

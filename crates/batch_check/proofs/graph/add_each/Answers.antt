@@ -12,5 +12,5 @@ loop-edge-preserved c =
     let index = c.loop-edge.edge-index in
     subst (λ (es : List Edge). HasTaken es c.args.set.now c.add.new.self) (sym (take_more edges index no_edge c.loop-edge-test.true))
     (HasTaken-more (take index edges) c.args.set.now c.loop-edge.set c.add.new.self (get_or edges index no_edge) c.loop-edge.invariant
-    (record { same_count = c.in_ok-add.ensures.count; kept = c.in_ok-add.ensures.kept; stays = c.in_ok-add.ensures.stays })
+    (record { same_count = c.in_ok-add.ensures.count; kept = c.in_ok-add.ensures.kept; stays = c.in_ok-add.ensures.stays; fresh = c.in_ok-add.ensures.fresh })
     c.in_ok-add.ensures.added c.in_ok-add.ensures.only)

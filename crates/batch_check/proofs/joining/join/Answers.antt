@@ -12,5 +12,5 @@ returns-in-Some-Some c =
     subst (λ (o : Option ℕ). OnOk c.add.result (HasJoined c.args.recipe c.args.node (o ∷ []) c.args.later old new)) (sym c.in-Some-Some.is-0)
     (subst (λ (o : Option ℕ). OnOk c.add.result (HasJoined c.args.recipe c.args.node (Some earlier ∷ []) o old new)) (sym c.in-Some-Some.is-1)
     (IfOk-weaker c.add.result (λ _. IsTrue (has_pair new.edges.items earlier later)) (λ _. HasJoined c.args.recipe c.args.node (Some earlier ∷ []) (Some later) old new)
-    (λ done added. HasJoined-pair c.args.recipe c.args.node earlier later old new (record { same_count = c.add.ensures.count; kept = c.add.ensures.kept; stays = c.add.ensures.stays }) added c.add.ensures.only)
+    (λ done added. HasJoined-pair c.args.recipe c.args.node earlier later old new (record { same_count = c.add.ensures.count; kept = c.add.ensures.kept; stays = c.add.ensures.stays; fresh = c.add.ensures.fresh }) added c.add.ensures.only)
     c.add.ensures.added))
