@@ -12,8 +12,8 @@ use crate::tree_phases::{TreePhases, tree_phases};
 use batch_recipe::Recipe;
 use std::alloc::{AllocError, Global};
 
-/// The phases of the trees of a recipe, and which of its nodes surely run a phase. Each is found once, when a node asks for it first: most
-/// recipes have neither `par`s nor loops.
+/// The phases of the trees of a recipe, and which of its nodes surely run a phase. Each is found once, when a node asks for it first. So a
+/// recipe costs nothing for them if it has neither `par`s in operations nor loops.
 #[derive(Drop)]
 pub(crate) struct Trees {
     phases: Option<Vec<TreePhases>>,
