@@ -1,4 +1,4 @@
--- private: what is known of the trees of a recipe.
+-- private: the facts that are known of the trees of a recipe.
 use Rattle.std.specs.Prelude.{◌≡◌, map}
 use Rattle.std.specs.Option.{ForSome}
 use Rattle.batch_recipe.specs.Procedure.{procedure_nodes}
