@@ -203,7 +203,7 @@ pub record IsAdded (cell : Cell) (kept : Option (List (Option ℕ))) (recipes : 
   pub covering : (final : List Edge) → Keeps new.edges.items final → OfNodes cell (Covers cell final) recipe
   pub pairing : kept ≡ Some [] → (final : List Edge) → Keeps new.edges.items final → PairsRecipe cell final recipe
 
--- so those of some recipes; no recipe before that of a new edge asks for the one resource right after the other
+-- so those of some recipes; no recipe before that of a new edge asks for `later` right after `earlier`
 pub record AreAdded (cell : Cell) (kept : Option (List (Option ℕ))) (recipes some : List Recipe) (old new : EdgeSet) : Type 0 where
   pub grown : Grows old new
   pub standing : (edge : Edge) → Contains new.edges.items edge → Contains old.edges.items edge ⊎ (EdgeStands cell recipes edge × IsOfFirst cell recipes edge)

@@ -99,7 +99,7 @@ pub record AsksNext (cell : Cell) (node : Node) (earlier later : ℕ) : Type 0 w
 abbrev pub IsOfFirst : Cell → List Recipe → Edge → Type 0
 IsOfFirst cell recipes edge = Each (OfNodes cell (λ node. ¬ (AsksNext cell node edge.earlier edge.later))) (take edge.recipe recipes)
 
--- edges that stand for the orders in which the recipes ask; no recipe before that of an edge asks for the one right after the other
+-- edges that stand for the orders in which the recipes ask; no recipe before that of an edge asks for `later` right after `earlier`
 pub record AreEdgesOf (cell : Cell) (recipes : List Recipe) (edges : List Edge) : Type 0 where
   pub standing : All (EdgeStands cell recipes) edges
   pub first : All (IsOfFirst cell recipes) edges

@@ -17,7 +17,7 @@ use batch_verify::is_recipe_set;
 use std::alloc::{AllocError, Global};
 
 /// The orders in which the recipes ask for resources: an edge for each two that follow one another on a path, and for each edge
-/// of a circle one that leads from the same resource to the same. No recipe before that of an edge asks for the one right after the other.
+/// of a circle one that leads from the same resource to the same. No recipe before that of an edge asks for `later` right after `earlier`.
 ///
 /// The circle is the one that [`crate::check`] reports, or has no edge. The faults are [`CheckFault::Recipes`] and
 /// [`CheckFault::Memory`] alone: recipes that break other rules have a graph too.

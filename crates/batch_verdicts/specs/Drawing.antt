@@ -24,8 +24,8 @@ pub record IsOnCircle (edges : List Edge) (edge : Edge) : Type 0 where
   pub along : All (Contains edges) walk
 
 -- the text is the graph of the edges of these recipes. Each of the edges stands in a recipe, and they leave out no two resources that
--- follow one another on a path; no recipe before that of an edge has its two so. Each edge of the circle has its arrow, which is red, and
--- all that is red lies on a circle. The names of acts in the text are left open
+-- follow one another on a path; no recipe before that of an edge asks for `later` right after `earlier`. Each edge of the circle has its
+-- arrow, which is red, and all that is red lies on a circle. The names of acts in the text are left open
 abbrev pub IsDrawingOf : Cell → List Recipe → List Edge → List ℕ → Type 0
 IsDrawingOf c rs circle text =
     (acts : ActNames) × (edges : List Edge) × (more : List Edge) × AreEdgesOf c rs edges × HasPairsOf circle edges × All (IsOnCircle edges) more
