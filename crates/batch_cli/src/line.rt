@@ -26,8 +26,8 @@ The demo, without a command; type these lines:
   report R1 ADD done
 
 Exit status:
-  0  accepted, or the input ran to its end, or the plant's batches are complete, or what was asked for is told
-  1  refused: a line on standard output, and of documents, a certificate or a journal what it means on standard error
+  0  accepted, or the input ran to its end, or the plant's batches are complete, or the text that was asked for is printed
+  1  refused: a line on standard output, and of documents, a certificate or a journal its meaning on standard error
   2  the words are no command
   3  a file, the input or the output failed
   4  no memory, or a thread can't be started

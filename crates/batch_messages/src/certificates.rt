@@ -1,10 +1,7 @@
 //! The faults of a certificate, in words.
-use batch_verify::{CertFault, MAX_LINES, MAX_RANK};
+use batch_verify::{CertFault, MAX_CERTIFICATE_LEN, MAX_LINES, MAX_RANK};
 use batch_wording::Sentence;
 use std::alloc::{AllocError, Global};
-
-/// The most bytes of a certificate's file.
-const MAX_LEN: usize = 32_768;
 
 /// The meaning of the fault of the certificate at this path. If the text begins as a TOML document does, the sentence says that another
 /// document is in the certificate's place.
@@ -25,7 +22,9 @@ fn fault_said(alloc: Global, text: &[u8], fault: CertFault) -> Result<String, Al
             "the name in line {line} comes before that of the line above it, by the order of bytes"
         ),
         CertFault::TooManyLines => {
-            format!(in alloc; "a certificate has at most {MAX_LINES} lines, and {MAX_LEN} bytes")
+            format!(in alloc;
+                "a certificate has at most {MAX_LINES} lines, and {MAX_CERTIFICATE_LEN} bytes"
+            )
         }
         CertFault::Memory => String::from_str(alloc, "there is no memory to read it"),
     }

@@ -188,7 +188,7 @@ static EXPLANATIONS: [Explanation; 52] = [
     Explanation {
         code: "R1",
         meaning: "the line with this number is no line of a record",
-        remedy: "ask `batchd status` of a record as `run` or `batchd` alone wrote it, without other lines in it",
+        remedy: "give `status` or `draw` a record as `run`, `serve` or `batchd` alone wrote it, without other lines in it",
     },
     Explanation {
         code: "V1",
@@ -238,7 +238,7 @@ static EXPLANATIONS: [Explanation; 52] = [
     Explanation {
         code: "V10",
         meaning: "two recipes have one name, or there are more than 256",
-        remedy: "name each recipe once, with its own name",
+        remedy: "give at most 256 recipes, each once, with its own name",
     },
     Explanation {
         code: "V11",

@@ -6,9 +6,9 @@ use Rattle.batch_cell.{specs.LookUps.resources_of, specs.declared.cell.Cell.Cell
 use Rattle.batch_recipe.specs.{Conditions.Name, Conditions.same_name, WellFormed.is_among, declared.recipe.Recipe.Recipe}
 use Rattle.batch_model.specs.Lists.{Each}
 use Rattle.batch_reader.proofs.DistinctNames.{IsDistinct-from_are_distinct}
-use Rattle.batch_verify.{specs.CertificateText.Rank, specs.CertificateText.words, specs.CertificateText.is_rank, specs.CertificateText.rank_of_words, specs.CertificateText.rank_of_line, specs.CertificateText.AreInOrderOfName, specs.CertificateText.IsCertificateText, specs.Ranked.names_in, specs.Ranked.rank_of, specs.Ranked.AreAmong, specs.Ranked.RanksAll, specs.declared.certificate.TheConstants.MAX_LINES, specs.declared.certificate.TheConstants.MAX_RANK, proofs.Cuts.lines_first, proofs.NamesInList.Each-at, proofs.CertificateEntries.name_at}
+use Rattle.batch_verify.{specs.CertificateText.Rank, specs.CertificateText.words, specs.CertificateText.is_rank, specs.CertificateText.rank_of_words, specs.CertificateText.rank_of_line, specs.CertificateText.AreInOrderOfName, specs.CertificateText.IsCertificateText, specs.Ranked.names_in, specs.Ranked.rank_of, specs.Ranked.AreAmong, specs.Ranked.RanksAll, specs.declared.certificate.TheConstants.MAX_LINES, specs.declared.certificate.TheConstants.MAX_RANK, proofs.Cuts.lines_first, proofs.NamesInList.Each-at, proofs.CertificateEntries.name_at, specs.declared.certificate.TheConstants.MAX_CERTIFICATE_LEN}
 use Rattle.batch_check.specs.Clearing.{IsLeastClearance}
-use Rattle.batch_verdicts.specs.{declared.judging.TheConstants.MAX_CERTIFICATE_LEN, VerdictTexts.certificate_text, VerdictTexts.rank_text}
+use Rattle.batch_verdicts.specs.VerdictTexts.{certificate_text, rank_text}
 
 -- Bytes
 

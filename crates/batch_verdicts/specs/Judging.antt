@@ -29,7 +29,7 @@ use Rattle.batch_check.specs.Clearing.{IsLeastClearance}
 use Rattle.batch_check.specs.declared.fault.CheckFault.{CheckFault}
 use Rattle.batch_check.specs.declared.fault.CheckFault.TheVariants as check
 use Rattle.batch_verdicts.specs.VerdictTexts.{certificate_refused, certificate_text, document_text, fault_text, refusal_text}
-use Rattle.batch_verdicts.specs.declared.judging.TheConstants.{MAX_CERTIFICATE_LEN}
+use Rattle.batch_verify.specs.declared.certificate.TheConstants.{MAX_CERTIFICATE_LEN}
 use Rattle.batch_verdicts.specs.declared.refusal.Halt.{Halt}
 use Rattle.batch_verdicts.specs.declared.refusal.Halt.TheVariants as halt
 use Rattle.batch_verdicts.specs.declared.refusal.RefusalKind.{RefusalKind}

@@ -7,9 +7,7 @@ ghost use Rattle.batch_verdicts.specs.Reading.{AreCleared, IsUnread, ReadsCell, 
 ghost use Rattle.batch_verdicts.specs.Saying.{IsWarned};
 ghost use Rattle.batch_verdicts.specs.Taking.{AreTaken, ClearsBehind};
 
-use crate::judging::{
-    MAX_CERTIFICATE_LEN, clear_recipes, parse_cell, parse_certificate, parse_recipe,
-};
+use crate::judging::{clear_recipes, parse_cell, parse_certificate, parse_recipe};
 use crate::refusal::Halt;
 use crate::taking::{NoTaker, TextTaker};
 use crate::warnings::warn;
@@ -18,7 +16,7 @@ use batch_messages::RecipeSource;
 use batch_outline::show_recipes;
 use batch_reader::MAX_DOCUMENT_LEN;
 use batch_recipe::Recipe;
-use batch_verify::{Certificate, Cleared};
+use batch_verify::{Certificate, Cleared, MAX_CERTIFICATE_LEN};
 use std::alloc::Global;
 use std::io::Write;
 

@@ -17,13 +17,11 @@ use batch_messages::{RecipeSource, certificate_sentence, fault_sentence, refusal
 use batch_reader::{DocFault, read_cell, read_recipe};
 use batch_recipe::Recipe;
 use batch_verify::{
-    CertFault, Certificate, Cleared, Rejected, SetRefusal, read_certificate, verify,
+    CertFault, Certificate, Cleared, MAX_CERTIFICATE_LEN, Rejected, SetRefusal, read_certificate,
+    verify,
 };
 use batch_wording::Sentence;
 use std::alloc::{AllocError, Global};
-
-/// The longest file of a certificate, in bytes.
-pub const MAX_CERTIFICATE_LEN: usize = 32_768;
 
 /// The cell of the document at the path. Only a refusal names the path.
 ///

@@ -28,9 +28,7 @@ pub use documents::{Documents, clear_documents, show_documents, verify_documents
 pub use drawing::draw_recipes;
 pub use every::{check_asked, draw_asked};
 pub use files::FilesOf;
-pub use judging::{
-    MAX_CERTIFICATE_LEN, check_recipes, clear_recipes, parse_cell, parse_certificate, parse_recipe,
-};
+pub use judging::{check_recipes, clear_recipes, parse_cell, parse_certificate, parse_recipe};
 pub use laws::statuses_tell;
 pub use limits::file_limits_are_fixed;
 pub use reading::{MAX_DOCUMENT_READS, ReadFault, read_document};

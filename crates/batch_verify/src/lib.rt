@@ -30,7 +30,7 @@ mod trial;
 mod walk;
 
 pub use bindings::binding_count;
-pub use certificate::{CertFault, Certificate, MAX_LINES, MAX_RANK};
+pub use certificate::{CertFault, Certificate, MAX_CERTIFICATE_LEN, MAX_LINES, MAX_RANK};
 pub use cleared::Cleared;
 pub use judgement::verify;
 pub use laws::{a_text_says_one_ranking, certificate_limits_are_fixed, numbered_bindings_suffice};

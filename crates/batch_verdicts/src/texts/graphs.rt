@@ -14,7 +14,7 @@ use std::alloc::{AllocError, Global};
 
 /// The meaning of the graph's shapes and colours, as its title.
 pub const LEGEND: &str =
-    "  label=\"An arrow leads from what is held to what is asked for then; it names the first step that asks so. Red: on a circle.\\nBox: a unit. Hexagon: a free module. Ellipse: a shared resource.\";\n";
+    "  label=\"An arrow leads from a resource that is held to one that is asked for then; it names a step that asks so. Red: on a circle.\\nBox: a unit. Hexagon: a free module. Ellipse: a shared resource.\";\n";
 
 /// The graph of the edges, with all resources of the cell. Each edge has an arrow, which is red if one of the red edges leads from the
 /// same resource to the same.
