@@ -4,9 +4,9 @@ use Rattle.std.{specs.Prelude.◌≢◌, specs.List.list_all, proofs.lemmas.List
 use Rattle.batch_model.specs.{Events.Event, Plant.Setup, Plant.Plant, Plant.opening}
 use Rattle.batch_verify.specs.ClearedSet.{ClearedSet}
 use Rattle.batch_engine.specs.View.{setup}
-use Rattle.batch_wire.specs.{EventLine.event_of_line, EventLine.is_comment, Transcript.Answers, Transcript.Exchange, Transcript.Transcript, Transcript.followed_by, Transcript.lines_of, Transcript.refusal, Transcript.silence, declared.fault.WireFault.WireFault, declared.fault.WireFault.TheVariants.Memory}
-use Rattle.batch_serve.{specs.Replays.AnswersWell, specs.Replays.BeginsText, specs.Replays.IsWholeLines, specs.Safe.TranscriptsAreSafe, specs.Serving.EndsLine, specs.Serving.HasNoFeed, proofs.Replays.is_other, proofs.Replays.whole_line, proofs.Replays.whole_then, proofs.TranscriptLines.answers_whole}
-use Rattle.batch_keep.{specs.Auditing.IsAnswered, specs.Auditing.IsAudited, specs.Auditing.IsFree, specs.Auditing.IsNotFree, specs.Auditing.IsPassedOver, specs.Auditing.Reaches, specs.Audits.BeginsNoRecord, specs.Audits.BeginsRecordOf, specs.Audits.Finds, specs.Audits.IsRecordOfNone, specs.Audits.agrees, specs.Audits.differs, specs.Audits.ends, specs.Audits.number_behind, specs.Audits.told_line, specs.Audits.told_text, specs.Comparing.Compares, specs.Comparing.Finishes, specs.Comparing.Halts, specs.Comparing.IsCompared, specs.Comparing.IsEnd, specs.Comparing.IsNextLine, specs.Comparing.TakesLines, specs.declared.finding.Finding.Finding, specs.declared.finding.Finding.TheVariants.Differs, specs.declared.finding.Finding.TheVariants.EndsBefore, proofs.LineOutcomes.free_answers, proofs.LineOutcomes.free_once, proofs.LineOutcomes.silent_once, proofs.LineOutcomes.well_once, proofs.LineOutcomes.well_told, proofs.RecordComparison.comments_tell, proofs.RecordComparison.last_of, proofs.RecordComparison.lines_apart, proofs.RecordComparison.some_lines, proofs.RecordComparison.takes_both, proofs.RecordComparison.told_both, proofs.RecordComparison.told_first, proofs.RecordComparison.told_of}
+use Rattle.batch_wire.{specs.EventLine.event_of_line, specs.EventLine.is_comment, specs.Transcript.Answers, specs.Transcript.Exchange, specs.Transcript.Transcript, specs.Transcript.followed_by, specs.Transcript.lines_of, specs.Transcript.refusal, specs.Transcript.silence, specs.declared.fault.WireFault.WireFault, specs.declared.fault.WireFault.TheVariants.Memory, specs.LineEnds.EndsLine, specs.LineEnds.HasNoFeed, proofs.LineEnds.last_of, proofs.LineEnds.lines_apart}
+use Rattle.batch_serve.{specs.Replays.AnswersWell, specs.Replays.BeginsText, specs.Replays.IsWholeLines, specs.Safe.TranscriptsAreSafe, proofs.Replays.is_other, proofs.Replays.whole_line, proofs.Replays.whole_then, proofs.TranscriptLines.answers_whole}
+use Rattle.batch_keep.{specs.Auditing.IsAnswered, specs.Auditing.IsAudited, specs.Auditing.IsFree, specs.Auditing.IsNotFree, specs.Auditing.IsPassedOver, specs.Auditing.Reaches, specs.Audits.BeginsNoRecord, specs.Audits.BeginsRecordOf, specs.Audits.Finds, specs.Audits.IsRecordOfNone, specs.Audits.agrees, specs.Audits.differs, specs.Audits.ends, specs.Audits.number_behind, specs.Audits.told_line, specs.Audits.told_text, specs.Comparing.Compares, specs.Comparing.Finishes, specs.Comparing.Halts, specs.Comparing.IsCompared, specs.Comparing.IsEnd, specs.Comparing.IsNextLine, specs.Comparing.TakesLines, specs.declared.finding.Finding.Finding, specs.declared.finding.Finding.TheVariants.Differs, specs.declared.finding.Finding.TheVariants.EndsBefore, proofs.LineOutcomes.free_answers, proofs.LineOutcomes.free_once, proofs.LineOutcomes.silent_once, proofs.LineOutcomes.well_once, proofs.LineOutcomes.well_told, proofs.RecordComparison.comments_tell, proofs.RecordComparison.some_lines, proofs.RecordComparison.takes_both, proofs.RecordComparison.told_both, proofs.RecordComparison.told_first, proofs.RecordComparison.told_of}
 use Rattle.batch_keep.specs.Comparing as comparing
 
 -- Transcripts

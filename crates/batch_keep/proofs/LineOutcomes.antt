@@ -5,9 +5,9 @@ use Rattle.batch_step_laws.proofs.Refusals.{refusal-just}
 use Rattle.batch_model.specs.{Events.Event, Events.Reply, Events.refused, Events.no_memory, Moves.Move, Moves.next, Plant.Setup, Plant.Plant, Runs.Out, Runs.reply, Runs.move, Runs.Reacts}
 use Rattle.batch_recipe.specs.Texts.{line_text}
 use Rattle.batch_engine.proofs.WantOfMemory.{wants-settled}
-use Rattle.batch_wire.specs.{RecordText.out_text, RecordText.out_words, Transcript.Answers, Transcript.Exchange, Transcript.Handles, Transcript.Settles, Transcript.handled, Transcript.lines_of, Transcript.refusal, declared.fault.WireFault.WireFault, declared.fault.WireFault.TheVariants.Memory}
-use Rattle.batch_serve.{specs.Replays.AnswersWell, specs.Serving.HasNoFeed, proofs.Replays.answers_once, proofs.Replays.takes_so, proofs.HeldText.is_false}
-use Rattle.batch_keep.{specs.Auditing.IsFree, proofs.RecordComparison.first_of_lines}
+use Rattle.batch_wire.{specs.RecordText.out_text, specs.RecordText.out_words, specs.Transcript.Answers, specs.Transcript.Exchange, specs.Transcript.Handles, specs.Transcript.Settles, specs.Transcript.handled, specs.Transcript.lines_of, specs.Transcript.refusal, specs.declared.fault.WireFault.WireFault, specs.declared.fault.WireFault.TheVariants.Memory, specs.LineEnds.HasNoFeed, proofs.LineEnds.first_of_lines}
+use Rattle.batch_serve.{specs.Replays.AnswersWell, proofs.Replays.answers_once, proofs.Replays.takes_so, proofs.HeldText.is_false}
+use Rattle.batch_keep.specs.Auditing.{IsFree}
 
 -- Texts
 

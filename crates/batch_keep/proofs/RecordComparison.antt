@@ -1,30 +1,14 @@
 -- How a record is compared line by line.
 use Rattle.std.proofs.Common.{◌≡◌, ◌<◌, ℕ, ◌+◌, ◌-◌, ◌^◌, Bool, true, false, eqb, List, [], ◌∷◌, ◌++◌, Option, Some, None, cond, count_by, length, min, take, drop, refl, sym, ap, subst, ◌∙◌, append_assoc, arith}
 use Rattle.std.{specs.Prelude.◌==◌, specs.Prelude.◌≢◌, specs.Prelude.MatchOption, specs.Borrow.Bor, proofs.lemmas.Grind.flat_map-append, proofs.lemmas.Bool.eqb-true, proofs.lemmas.List.append_cancel_left, proofs.lemmas.List.drop_more, proofs.lemmas.List.length-append, proofs.lemmas.List.length-drop, proofs.lemmas.List.nil_from_length, proofs.lemmas.List.take-append-drop, proofs.lemmas.List.take_rest, proofs.lemmas.List.Splits.length-slice_split, proofs.lemmas.List.Splits.slice_split_at, proofs.lemmas.List.Splits.slice_split_none}
-use Rattle.batch_wire.specs.{EventLine.is_comment, Transcript.lines_of}
-use Rattle.batch_serve.specs.{Replays.BeginsText, Serving.EndsLine, Serving.HasNoFeed}
+use Rattle.batch_wire.specs.{EventLine.is_comment, Transcript.lines_of, LineEnds.EndsLine, LineEnds.HasNoFeed}
+use Rattle.batch_serve.specs.Replays.{BeginsText}
 use Rattle.batch_keep.specs.{Audits.told_line, Audits.told_text, Comparing.IsCompared, Comparing.TakesLines}
 
 abbrev is_end : ℕ → Bool
 is_end b = eqb b 10
 
 -- A line
-
--- the line that ends there, and the rest behind it
-pub line_apart : (rest : List ℕ) (at : ℕ) → EndsLine at rest → rest ≡ take at rest ++ 10 ∷ drop (at + 1) rest
-line_apart rest at here =
-    sym (take-append-drop at rest) ∙ ap (λ l. take at rest ++ l) (drop_more rest at 0 here.within ∙ ap (λ b. b ∷ drop (at + 1) rest) here.feed)
-
--- lines of which the first ends with this line feed
-pub first_of_lines : (line rest : List ℕ) → HasNoFeed line → lines_of (line ++ 10 ∷ rest) ≡ line ∷ lines_of rest
-first_of_lines line rest plain = slice_split_at (λ b. eqb b 10) line 10 rest plain refl
-
-pub lines_apart : (rest : List ℕ) (at : ℕ) → EndsLine at rest → lines_of rest ≡ take at rest ∷ lines_of (drop (at + 1) rest)
-lines_apart rest at here = ap lines_of (line_apart rest at here) ∙ first_of_lines (take at rest) (drop (at + 1) rest) here.before
-
--- the last of the lines, which no line feed ends
-pub last_of : (text : List ℕ) → HasNoFeed text → lines_of text ≡ text ∷ []
-last_of text none = slice_split_none (λ b. eqb b 10) text none
 
 -- there is a last line, which may be empty
 pub some_lines : (text : List ℕ) → lines_of text ≢ []

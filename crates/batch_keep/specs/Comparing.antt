@@ -3,7 +3,7 @@ use Rattle.std.specs.Prelude.{◌≡◌, ◌≢◌, ℕ, ◌+◌, ◌-◌, ◌^�
 use Rattle.batch_wire.specs.EventLine.{is_comment}
 use Rattle.batch_wire.specs.Transcript.{lines_of}
 use Rattle.batch_serve.specs.Replays.{BeginsText}
-use Rattle.batch_serve.specs.Serving.{EndsLine, HasNoFeed}
+use Rattle.batch_wire.specs.LineEnds.{EndsLine, HasNoFeed}
 use Rattle.batch_keep.specs.Audits.{told_text}
 use Rattle.batch_keep.specs.declared.finding.Finding.{Finding}
 use Rattle.batch_keep.specs.declared.finding.Finding.TheVariants.{Agrees, Differs, EndsBefore}

@@ -10,12 +10,12 @@ ghost use Rattle.batch_keep.specs.Audits.{Finds};
 ghost use Rattle.batch_keep.specs.Comparing.{IsCompared};
 
 use crate::finding::{AuditFault, Finding};
-use crate::record::{Record, line_feed};
+use crate::record::Record;
 use crate::wants::{is_free, is_want};
 use batch_engine::Engine;
 use batch_serve::{NoRemarks, answer_line, transcripts_are_safe};
 use batch_verify::Cleared;
-use batch_wire::KnownPlaces;
+use batch_wire::{KnownPlaces, line_feed};
 use std::alloc::Global;
 use std::io::Read;
 

@@ -1,12 +1,12 @@
 //! A record, compared with the due answers.
 ghost use Rattle.std.specs.Prelude.{◌≡◌, ◌≢◌, ◌+◌, ◌-◌, ◌^◌, ◌<◌, ◌++◌, ◌∷◌, [], ℕ, List, MatchOption, length, min, take};
 ghost use Rattle.batch_serve.specs.Replays.{BeginsText};
-ghost use Rattle.batch_serve.specs.Serving.{EndsLine, HasNoFeed};
+ghost use Rattle.batch_wire.specs.LineEnds.{EndsLine};
 ghost use Rattle.batch_wire.specs.EventLine.{is_comment};
 ghost use Rattle.batch_keep.specs.Comparing.{Compares, Finishes, IsCompared, IsNextLine, TakesLines};
 
 use crate::finding::Finding;
-use memchr::memchr;
+use batch_wire::line_feed;
 
 /// The rest of a record, and how many of its lines were taken, as far as 64 bits count them.
 #[derive(Clone, Copy)]
@@ -108,11 +108,4 @@ fn is_comment(line: &[u8]) -> bool
     ensures { result ≡ is_comment line.now }
 {
     line.starts_with(b"#")
-}
-
-/// The place of the first line feed.
-pub(crate) fn line_feed(bytes: &[u8]) -> Option<usize>
-    ensures { MatchOption result (HasNoFeed bytes.now) (λ at. EndsLine at bytes.now) }
-{
-    memchr(b'\n', bytes)
 }

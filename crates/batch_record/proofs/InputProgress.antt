@@ -2,7 +2,8 @@
 use Rattle.std.proofs.Common.{◌≡◌, ℕ, ◌+◌, ◌-◌, ◌^◌, ◌<◌, false, eqb, List, [], ◌∷◌, ◌++◌, length, take, drop, min, Option, Some, None, Result, Ok, IfSome, refl, sym, ap, subst, ◌∙◌, append_assoc, append-nil, arith}
 use Rattle.std.{proofs.lemmas.List.drop_more, proofs.lemmas.List.take-append-drop, proofs.lemmas.List.take_rest, proofs.lemmas.List.Elements.All-append, proofs.KnownBytes.Consumes-trans, proofs.KnownBytes.Consumes-whole, specs.Io.KnownBytes.Consumes, specs.Io.KnownBytes.IsAtEnd, specs.Io.KnownBytes.ReadConsumes}
 use Rattle.batch_model.specs.Lists.{Each}
-use Rattle.batch_record.specs.{Blocks.Stage, Blocks.opening_stage, Blocks.stage_after, Blocks.stages, Kept.Keeps, StatusReading.HasNoFeed, StatusReading.IsRefusedAt, StatusReading.LeadsTo, StatusReading.lines_text, Taking.EndsLine, Standings.HasRead, Standings.IsAt, declared.course.RecordCourse.RecordCourse, declared.status_reading.Reading.Reading}
+use Rattle.batch_wire.{specs.LineEnds.EndsLine, specs.LineEnds.HasNoFeed, proofs.LineEnds.line_apart}
+use Rattle.batch_record.specs.{Blocks.Stage, Blocks.opening_stage, Blocks.stage_after, Blocks.stages, Kept.Keeps, StatusReading.IsRefusedAt, StatusReading.LeadsTo, StatusReading.lines_text, Standings.HasRead, Standings.IsAt, declared.course.RecordCourse.RecordCourse, declared.status_reading.Reading.Reading}
 
 -- A line more
 
@@ -94,24 +95,19 @@ beginning-read old new read rest h none line course count = record {
 
 -- Pieces
 
--- a line in the rest of a piece, and the bytes after it
-pub parted : (rest : List ℕ) (at : ℕ) → EndsLine at rest → rest ≡ take at rest ++ 10 ∷ drop (at + 1) rest
-parted rest at e =
-    sym (take-append-drop at rest) ∙ ap (λ l. take at rest ++ l) (drop_more rest at 0 e.within ∙ ap (λ b. b ∷ drop (at + 1) rest) e.feed)
-
 pub all-read : (reading : Reading) (read : List ℕ) → (h : HasRead reading read) → LeadsTo read h.stage
 all-read reading read h = record { lines = h.lines; last = reading.line.items; is_text = h.is_text; stages = h.stages }
 
 pub taken-on : (piece taken rest : List ℕ) (at : ℕ) → piece ≡ taken ++ rest → EndsLine at rest
     → piece ≡ (taken ++ (take at rest ++ 10 ∷ [])) ++ take (length rest - (at + 1)) (drop (at + 1) rest)
 taken-on piece taken rest at e h =
-    e ∙ ap (λ l. taken ++ l) (parted rest at h) ∙ ap (λ l. taken ++ (take at rest ++ 10 ∷ l)) (sym (take_rest rest (at + 1))) ∙ simp append_assoc
+    e ∙ ap (λ l. taken ++ l) (line_apart rest at h) ∙ ap (λ l. taken ++ (take at rest ++ 10 ∷ l)) (sym (take_rest rest (at + 1))) ∙ simp append_assoc
 
 -- a piece, apart at the end of a line in it
 pub line-apart : (read piece taken rest : List ℕ) (at : ℕ) → piece ≡ taken ++ rest → EndsLine at rest
     → (read ++ taken) ++ (take at rest ++ 10 ∷ drop (at + 1) rest) ≡ read ++ piece
 line-apart read piece taken rest at e h =
-    ap (λ l. (read ++ taken) ++ l) (sym (parted rest at h)) ∙ append_assoc read taken rest ∙ ap (λ l. read ++ l) (sym e)
+    ap (λ l. (read ++ taken) ++ l) (sym (line_apart rest at h)) ∙ append_assoc read taken rest ∙ ap (λ l. read ++ l) (sym e)
 
 -- the end of the input
 pub gave-nothing : {E : Type 0} (r : Result ℕ E) (n : ℕ) (old new : Option (List ℕ)) (buf : List ℕ) → r ≡ Ok n → n ≡ 0 → 0 < length buf

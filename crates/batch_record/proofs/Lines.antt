@@ -2,7 +2,8 @@
 use Rattle.std.proofs.Common.{◌≡◌, ℕ, ◌+◌, ◌-◌, ◌^◌, List, [], ◌∷◌, ◌++◌, length, take, drop, min, Option, Some, None, true, false, Bool, refl, sym, ap, ◌∙◌, append_assoc, option_map}
 use Rattle.std.proofs.lemmas.List.{drop_more, take-append-drop}
 use Rattle.batch_model.specs.{Lists.Each, Runs.Out}
-use Rattle.batch_record.{specs.Laws.is_passed_over, specs.RecordLine.out_of_line, specs.Blocks.Stage, specs.Blocks.mark_of, specs.Blocks.stage_after_mark, specs.Blocks.opening_stage, specs.Blocks.stage_after, specs.Blocks.stages, specs.Blocks.stage_after_out, specs.StatusReading.HasNoFeed, specs.StatusReading.IsRefusedAt, specs.StatusReading.LeadsTo, specs.StatusReading.lines_text, specs.Taking.EndsLine, proofs.InputProgress.each-more, proofs.InputProgress.parted, proofs.InputProgress.stages-more, proofs.InputProgress.text-more, proofs.InputProgress.length-more, proofs.InputProgress.counted-more}
+use Rattle.batch_wire.{specs.LineEnds.HasNoFeed, specs.LineEnds.EndsLine, proofs.LineEnds.line_apart}
+use Rattle.batch_record.{specs.Laws.is_passed_over, specs.RecordLine.out_of_line, specs.Blocks.Stage, specs.Blocks.mark_of, specs.Blocks.stage_after_mark, specs.Blocks.opening_stage, specs.Blocks.stage_after, specs.Blocks.stages, specs.Blocks.stage_after_out, specs.StatusReading.IsRefusedAt, specs.StatusReading.LeadsTo, specs.StatusReading.lines_text, proofs.InputProgress.each-more, proofs.InputProgress.stages-more, proofs.InputProgress.text-more, proofs.InputProgress.length-more, proofs.InputProgress.counted-more}
 
 -- The progress of reading a text
 
@@ -29,7 +30,7 @@ line-taken text rest number told at h here counted next after = record {
   lines = h.lines ++ take at rest ∷ [];
   stage = next;
   whole = each-more HasNoFeed h.lines (take at rest) h.whole here.before;
-  split = h.split ∙ ap (λ l. lines_text h.lines ++ l) (parted rest at here)
+  split = h.split ∙ ap (λ l. lines_text h.lines ++ l) (line_apart rest at here)
       ∙ sym (ap (λ l. l ++ drop (at + 1) rest) (text-more h.lines (take at rest)) ∙ append_assoc (lines_text h.lines) (take at rest ++ 10 ∷ []) (drop (at + 1) rest)
       ∙ ap (λ l. lines_text h.lines ++ l) (append_assoc (take at rest) (10 ∷ []) (drop (at + 1) rest)));
   stages = stages-more opening_stage h.lines (take at rest) h.stage next h.stages after;
@@ -45,7 +46,7 @@ line-refused text rest number told at h here counted refused = record {
   stage = h.stage;
   whole = h.whole;
   unended = here.before;
-  is = h.split ∙ ap (λ l. lines_text h.lines ++ l) (parted rest at here);
+  is = h.split ∙ ap (λ l. lines_text h.lines ++ l) (line_apart rest at here);
   stages = h.stages;
   refused = refused;
   numbered = counted ∙ counted-more number (length h.lines) h.counted;

@@ -2,7 +2,8 @@
 use Rattle.std.specs.Prelude.{◌≡◌, ℕ, ◌-◌, ◌^◌, List, [], ◌∷◌, ◌++◌, length, min, Option, Some, None, ⊤, Result, MatchResult}
 use Rattle.batch_record.specs.Blocks.{Stage, opening_stage, stage_after, stages}
 use Rattle.batch_record.specs.Kept.{Keeps}
-use Rattle.batch_record.specs.StatusReading.{HasNoFeed, IsRefusedAt, IsText}
+use Rattle.batch_wire.specs.LineEnds.{HasNoFeed}
+use Rattle.batch_record.specs.StatusReading.{IsRefusedAt, IsText}
 use Rattle.batch_record.specs.Telling.{Tale}
 use Rattle.batch_record.specs.declared.course.RecordCourse.{RecordCourse}
 use Rattle.batch_record.specs.declared.status_reading.StatusFault.{StatusFault}

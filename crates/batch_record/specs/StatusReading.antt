@@ -1,15 +1,12 @@
 -- trusted: the reading of a record's text.
-use Rattle.std.specs.Prelude.{◌≡◌, ℕ, ◌+◌, ◌-◌, ◌^◌, List, [], ◌∷◌, ◌++◌, length, flat_map, min, Some, None, ◌==◌, false}
-use Rattle.std.specs.List.{All}
+use Rattle.std.specs.Prelude.{◌≡◌, ℕ, ◌+◌, ◌-◌, ◌^◌, List, [], ◌∷◌, ◌++◌, length, flat_map, min, Some, None}
 use Rattle.batch_model.specs.Lists.{Each}
+use Rattle.batch_wire.specs.LineEnds.{HasNoFeed}
 use Rattle.batch_record.specs.Blocks.{Stage, opening_stage, stage_after, stages}
 
 -- each line with a line feed after it
 abbrev pub lines_text : List (List ℕ) → List ℕ
 lines_text lines = flat_map (λ line. line ++ 10 ∷ []) lines
-
-abbrev pub HasNoFeed : List ℕ → Type 0
-HasNoFeed line = All (λ b. (b == 10) ≡ false) line
 
 -- the text is these lines, and after them a last one that no line feed ends
 pub record IsText (lines : List (List ℕ)) (last text : List ℕ) : Type 0 where

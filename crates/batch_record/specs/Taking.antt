@@ -1,16 +1,10 @@
 -- private: lines that are taken one after the other.
-use Rattle.std.specs.Prelude.{◌≡◌, ℕ, ◌<◌, List, length, take, get_or, Some, None, Result, MatchResult}
+use Rattle.std.specs.Prelude.{◌≡◌, ℕ, List, Some, None, Result, MatchResult}
 use Rattle.batch_record.specs.Blocks.{Stage, stage_after}
-use Rattle.batch_record.specs.StatusReading.{HasNoFeed, IsRefusedAt}
+use Rattle.batch_record.specs.StatusReading.{IsRefusedAt}
 use Rattle.batch_record.specs.Recorded.{IsRecord}
 use Rattle.batch_record.specs.declared.picture_reading.RecordFault.{RecordFault}
 use Rattle.batch_record.specs.declared.picture_reading.RecordFault.TheVariants as faults
-
--- the first line feed in the bytes is there
-pub record EndsLine (at : ℕ) (bytes : List ℕ) : Type 0 where
-  pub within : at < length bytes
-  pub feed : get_or bytes at 0 ≡ 10
-  pub before : HasNoFeed (take at bytes)
 
 -- the line with this number is one of a record, or none
 abbrev pub TakesLine : List ℕ → ℕ → Result (Unit {0}) RecordFault → Type 0

@@ -9,7 +9,6 @@ mod course;
 mod drawing;
 mod lanes;
 mod laws;
-mod line_ends;
 mod live;
 mod memory;
 mod pairs;

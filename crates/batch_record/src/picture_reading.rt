@@ -6,10 +6,10 @@ ghost use Rattle.batch_record.specs.Taking.{TakesLine, TakesLines};
 ghost use Rattle.batch_record.specs.declared.picture_reading.RecordFault.TheVariants as faults;
 
 use crate::drawing::draw;
-use crate::line_ends::line_feed;
 use crate::picture::Picture;
 use crate::record_line::{NoRecordLine, read_record_line};
 use crate::timeline::{Timeline, time_of};
+use batch_wire::line_feed;
 use std::alloc::{AllocError, Global};
 use thiserror::Error;
 

@@ -7,10 +7,10 @@ ghost use Rattle.batch_record.specs.Standings.{Ends, Feeds, HasRead};
 ghost use Rattle.batch_record.specs.declared.status_reading.StatusFault.TheVariants as faults;
 
 use crate::course::RecordCourse;
-use crate::line_ends::line_feed;
 use crate::memory::NoMemory;
 use crate::status::Status;
 use crate::text::put;
+use batch_wire::line_feed;
 use std::alloc::Global;
 use std::io::{ErrorKind, Read};
 use thiserror::Error;

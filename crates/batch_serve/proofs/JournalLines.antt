@@ -3,8 +3,8 @@ use Rattle.std.proofs.Common.{◌≡◌, ℕ, suc, ◌+◌, ◌-◌, ◌<◌, �
 use Rattle.std.{proofs.lemmas.Bool.and_parts, proofs.lemmas.Bool.not-true, proofs.lemmas.Bool.cases_lt, proofs.lemmas.Bool.lt-ltb, proofs.lemmas.Bool.le-ltb, proofs.lemmas.List.take_all, proofs.lemmas.List.take_at, proofs.lemmas.List.take_rest, proofs.lemmas.List.take_more_set, proofs.lemmas.List.map_more, proofs.lemmas.List.length-take, proofs.lemmas.List.length-take-le, proofs.lemmas.List.length-append, proofs.lemmas.List.length-drop, proofs.lemmas.List.take-append-drop, proofs.lemmas.List.take-append-le, proofs.lemmas.List.drop_more, proofs.Math.Seq.take-append-add, specs.List.slice_split, specs.List.onto_first, specs.List.list_all, specs.Io.ReadsAtMost, specs.Io.KnownBytes.Consumes, specs.Io.KnownBytes.IsAtEnd, specs.Io.KnownBytes.Keeps, specs.Io.KnownBytes.ReadConsumes, specs.Prelude.⊤, specs.Str.Lines.strip_carriage_return}
 use borrow.Rule.Slice.PartMut.{put_mid, post_of}
 use Rattle.batch_model.specs.Plant.{Setup, Plant}
-use Rattle.batch_wire.specs.{EventLine.is_space, EventLine.is_word, EventLine.event_words, EventLine.is_comment, EventLine.event_of_words, EventLine.event_of_line, Transcript.lines_of, Transcript.Exchange, Transcript.silence, Transcript.followed_by, Transcript.Answers, Transcript.Transcript, declared.event_line.TheConstants.MAX_LINE_LEN, declared.fault.WireFault.TheVariants.TooLong}
-use Rattle.batch_serve.{specs.CleanLines.clean_byte, specs.CleanLines.is_too_long, specs.CleanLines.gives_nothing, specs.CleanLines.clean, specs.CleanLines.clean_text, specs.CleanLines.clean_lines, specs.CleanLines.clean_from, specs.CleanLines.CleansLines, specs.CleanLines.CleanLinesAgree, specs.CleanLines.CleanLinesServeAlike, specs.Serving.EndsLine, specs.Serving.HasNoFeed, specs.declared.line_buffer.TheConstants.KEPT, proofs.LineBeginnings.take_twice, proofs.LineBeginnings.length_strip, proofs.CleanWords.bytes_same, proofs.CleanWords.test_all, proofs.Replays.is_other}
+use Rattle.batch_wire.{specs.EventLine.is_space, specs.EventLine.is_word, specs.EventLine.event_words, specs.EventLine.is_comment, specs.EventLine.event_of_words, specs.EventLine.event_of_line, specs.Transcript.lines_of, specs.Transcript.Exchange, specs.Transcript.silence, specs.Transcript.followed_by, specs.Transcript.Answers, specs.Transcript.Transcript, specs.declared.event_line.TheConstants.MAX_LINE_LEN, specs.declared.fault.WireFault.TheVariants.TooLong, specs.LineEnds.EndsLine, specs.LineEnds.HasNoFeed, proofs.LineEnds.line_apart}
+use Rattle.batch_serve.{specs.CleanLines.clean_byte, specs.CleanLines.is_too_long, specs.CleanLines.gives_nothing, specs.CleanLines.clean, specs.CleanLines.clean_text, specs.CleanLines.clean_lines, specs.CleanLines.clean_from, specs.CleanLines.CleansLines, specs.CleanLines.CleanLinesAgree, specs.CleanLines.CleanLinesServeAlike, specs.declared.line_buffer.TheConstants.KEPT, proofs.LineBeginnings.take_twice, proofs.LineBeginnings.length_strip, proofs.CleanWords.bytes_same, proofs.CleanWords.test_all, proofs.Replays.is_other}
 
 -- Each line has the same meaning
 
@@ -181,9 +181,7 @@ from_unended line (b ∷ end) bytes none =
 pub ended : (line rest more : List ℕ) (at : ℕ) → EndsLine at rest
     → clean_from line (rest ++ more) ≡ clean_text (clean (take KEPT (line ++ take at rest))) ++ clean_from [] (drop (at + 1) rest ++ more)
 ended line rest more at ends =
-    let split : rest ≡ take at rest ++ 10 ∷ drop (at + 1) rest =
-    sym (take-append-drop at rest) ∙ ap (λ l. take at rest ++ l) (drop_more rest at 0 ends.within) ∙ ap (λ b. take at rest ++ b ∷ drop (at + 1) rest) ends.feed in
-    ap (λ l. clean_from line (l ++ more)) split
+    ap (λ l. clean_from line (l ++ more)) (line_apart rest at ends)
     ∙ ap (clean_from line) (append_assoc (take at rest) (10 ∷ drop (at + 1) rest) more)
     ∙ from_unended line (take at rest) (10 ∷ (drop (at + 1) rest ++ more)) ends.before
     ∙ ap (λ l. clean_text l ++ clean_from [] (drop (at + 1) rest ++ more)) (sym (clean_kept (line ++ take at rest)))

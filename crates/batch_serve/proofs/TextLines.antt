@@ -1,11 +1,8 @@
 -- The whole lines of a text, and those of them that a desk is due.
 use Rattle.std.proofs.Common.{◌≡◌, ◌<◌, ◌≤◌, ◌+◌, ◌-◌, ℕ, suc, Bool, false, List, [], ◌∷◌, ◌++◌, length, take, drop, filter, position, Option, Some, None, ◌==◌, get_or, sym, ap, arith, append_assoc, append-nil, ◌∙◌}
-use Rattle.std.{proofs.lemmas.Bool.Decides.nat_tests, proofs.lemmas.Grind.flat_map-append, proofs.lemmas.List.take_more, proofs.lemmas.List.Elements.All-from_get_or, proofs.lemmas.List.Elements.filter-append, proofs.lemmas.List.Splits.slice_split_none, proofs.lemmas.List.Splits.slice_split_first, proofs.lemmas.List.Splits.length-slice_split, proofs.lemmas.List.Sums.fails_before_first, specs.List.position_or_len}
+use Rattle.std.proofs.lemmas.{Grind.flat_map-append, List.take_more, List.Elements.filter-append, List.Splits.length-slice_split}
 use Rattle.batch_serve.specs.{Lines.is_feed, Dues.is_due, Runs.Run, Runs.due_of}
-use Rattle.batch_wire.specs.Transcript.{lines_of, whole_lines}
-
-place_of : (text : List ℕ) (at : ℕ) → position is_feed text ≡ Some at → (position_or_len is_feed text ≡ at) × (at < length text)
-place_of text at found = (grind (arith, nat_tests), grind (arith, nat_tests))
+use Rattle.batch_wire.{specs.LineEnds.EndsLine, specs.LineEnds.HasNoFeed, specs.Transcript.lines_of, specs.Transcript.whole_lines, proofs.LineEnds.last_of, proofs.LineEnds.lines_apart}
 
 -- but for the last, which isn't whole
 but_last : (line : List ℕ) (lines : List (List ℕ)) (n : ℕ) → length lines ≡ n + 1 → take (length (line ∷ lines) - 1) (line ∷ lines) ≡ line ∷ take (length lines - 1) lines
@@ -14,21 +11,14 @@ but_last line lines n some =
     ap (λ k. take k (line ∷ lines)) count
 
 -- a line ends there, and the others follow it
-pub whole_first : (text : List ℕ) (at : ℕ) → position is_feed text ≡ Some at → whole_lines text ≡ take at text ∷ whole_lines (drop (at + 1) text)
-whole_first text at found =
-    let place = place_of text at found in
-    let within : position_or_len is_feed text < length text = omega (arith, place.0, place.1) in
-    let split : lines_of text ≡ take at text ∷ lines_of (drop (at + 1) text) =
-    slice_split_first is_feed text 0 within ∙ ap (λ n. take n text ∷ lines_of (drop (n + 1) text)) place.0 in
-    ap (λ (lines : List (List ℕ)). take (length lines - 1) lines) split
+pub whole_first : (text : List ℕ) (at : ℕ) → EndsLine at text → whole_lines text ≡ take at text ∷ whole_lines (drop (at + 1) text)
+whole_first text at here =
+    ap (λ (lines : List (List ℕ)). take (length lines - 1) lines) (lines_apart text at here)
     ∙ but_last (take at text) (lines_of (drop (at + 1) text)) _ (length-slice_split is_feed (drop (at + 1) text))
 
 -- no line ends in it
-pub whole_none : (text : List ℕ) → position is_feed text ≡ None → whole_lines text ≡ []
-whole_none text none =
-    let past : length text ≤ position_or_len is_feed text = grind (arith, nat_tests) in
-    let one : lines_of text ≡ text ∷ [] = slice_split_none is_feed text (All-from_get_or (λ b. is_feed b ≡ false) text 0 (λ i within. fails_before_first is_feed text i 0 (omega (arith, within, past)))) in
-    ap (λ (lines : List (List ℕ)). take (length lines - 1) lines) one
+pub whole_none : (text : List ℕ) → HasNoFeed text → whole_lines text ≡ []
+whole_none text none = ap (λ (lines : List (List ℕ)). take (length lines - 1) lines) (last_of text none)
 
 -- one more line was read
 pub lines_more : (text rest line behind : List ℕ) (front : List (List ℕ)) → whole_lines text ≡ front ++ whole_lines rest → whole_lines rest ≡ line ∷ whole_lines behind

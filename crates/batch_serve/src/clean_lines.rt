@@ -8,8 +8,7 @@ ghost use Rattle.batch_wire.specs.Transcript.{lines_of};
 ghost use Rattle.batch_serve.specs.CleanLines.{clean, clean_byte, clean_text, clean_from, clean_lines, gives_nothing};
 
 use crate::line_buffer::LineBuffer;
-use crate::serving::line_feed;
-use batch_wire::MAX_LINE_LEN;
+use batch_wire::{MAX_LINE_LEN, line_feed};
 use std::io;
 use std::io::{ErrorKind, Read};
 

@@ -1,8 +1,7 @@
 //! A desk, and the queue of the lines that are due to it and not yet sent.
-ghost use Rattle.std.specs.Prelude.{◌≡◌, ◌<◌, List, ℕ, [], ◌∷◌, ◌++◌, length, filter, position, false, IfSome};
+ghost use Rattle.std.specs.Prelude.{◌≡◌, List, ℕ, [], ◌∷◌, ◌++◌, filter, false};
 ghost use Rattle.batch_wire.specs.Transcript.{whole_lines};
 ghost use Rattle.batch_serve.specs.Dues.{is_due};
-ghost use Rattle.batch_serve.specs.Lines.{is_feed};
 ghost use Rattle.batch_serve.specs.Waits.{IsAccount, nothing_waits};
 ghost use Rattle.batch_serve.specs.Told.{AreDesksTold, IsDeskTold};
 
@@ -12,6 +11,7 @@ use crate::line::DeskLine;
 use crate::run::Run;
 use crate::sorting::is_due;
 use batch_text::Name;
+use batch_wire::line_feed;
 use std::alloc::Global;
 
 /// A desk, which is a console or the link of a unit, without its paths and its threads.
@@ -102,12 +102,4 @@ pub fn queue_for_each(alloc: Global, desks: &mut Vec<ServedDesk>, answers: &[Run
     for desk in 0..desks.len() {
         desks[desk].queue_answers(alloc, answers, desk);
     }
-}
-
-/// The place of the first line feed.
-fn line_feed(text: &[u8]) -> Option<usize>
-    ensures value { result ≡ position is_feed text.now }
-    ensures within { IfSome result (λ at. at < length text.now) }
-{
-    text.iter().position(|byte| *byte == b'\n')
 }

@@ -1,11 +1,11 @@
 //! Serving a reader and a writer.
-ghost use Rattle.std.specs.Prelude.{◌≡◌, ◌≤◌, ◌++◌, [], ℕ, take, length, MatchOption, OnOk, IfSome, IsErrOf};
+ghost use Rattle.std.specs.Prelude.{◌≡◌, ◌≤◌, ◌++◌, [], ℕ, take, length, OnOk, IfSome, IsErrOf};
 ghost use Rattle.std.specs.Io.KnownBytes.{Keeps, IsAtEnd};
 ghost use Rattle.batch_engine.specs.View.{setup, plant_of};
 ghost use Rattle.batch_serve.specs.Safe.{TranscriptsAreSafe};
 ghost use Rattle.batch_serve.specs.Answering.{WritesAnswer};
 ghost use Rattle.batch_serve.specs.Cut.{BeginsLinesRead};
-ghost use Rattle.batch_serve.specs.Serving.{EndsLine, Feeds, Finishes, HasNoFeed};
+ghost use Rattle.batch_serve.specs.Serving.{Feeds, Finishes};
 ghost use Rattle.batch_serve.specs.Settled.{IsSettledEngine};
 ghost use Rattle.batch_serve.specs.declared.line_buffer.TheConstants.{KEPT};
 ghost use Rattle.batch_wire.specs.EventLine.{event_of_line};
@@ -19,8 +19,7 @@ use crate::laws::transcripts_are_safe;
 use crate::line_buffer::LineBuffer;
 use crate::remarks::Remarks;
 use batch_engine::Engine;
-use batch_wire::{KnownPlaces, WriteFault};
-use memchr::memchr;
+use batch_wire::{KnownPlaces, WriteFault, line_feed};
 use std::alloc::Global;
 use std::io::{ErrorKind, Read, Write};
 
@@ -146,13 +145,6 @@ fn answer_ended<W: Write, M: Remarks<W>>(
     answer_line(alloc, engine, line.as_slice(), places, writer, remarks)?;
     line.clear();
     Ok(())
-}
-
-/// The position of the first line feed.
-pub(crate) fn line_feed(bytes: &[u8]) -> Option<usize>
-    ensures { MatchOption result (HasNoFeed bytes.now) (λ at. EndsLine at bytes.now) }
-{
-    memchr(b'\n', bytes)
 }
 
 /// Answers the last line, which no line feed ends.

@@ -1,6 +1,7 @@
 use Rattle.std.proofs.Common.{◌+◌, ◌++◌, ◌∷◌, [], refl, sym, ap, subst, ◌∙◌, take, drop, append_assoc}
 use Rattle.std.proofs.lemmas.Result.{err_from_is_err_and}
-use Rattle.batch_record.{specs.StatusReading.IsRefusedAt, specs.declared.status_reading.Reading.Reading, specs.Taking.EndsLine, specs.Standings.HasRead, proofs.InputProgress.beginning-read, proofs.InputProgress.line-apart, proofs.InputProgress.taken-on}
+use Rattle.batch_wire.specs.LineEnds.{EndsLine}
+use Rattle.batch_record.{specs.StatusReading.IsRefusedAt, specs.declared.status_reading.Reading.Reading, specs.Standings.HasRead, proofs.InputProgress.beginning-read, proofs.InputProgress.line-apart, proofs.InputProgress.taken-on}
 use Rattle.batch_record.proofs.status_reading.Reading.feed.Goals as goal
 
 pub returns-in_err-end_line : goal.returns-in_err-end_line

@@ -1,5 +1,6 @@
 use Rattle.std.proofs.Common.{refl, sym, subst, [], arith}
-use Rattle.batch_record.specs.{Blocks.opening_stage, StatusReading.HasNoFeed}
+use Rattle.batch_wire.specs.LineEnds.{HasNoFeed}
+use Rattle.batch_record.specs.Blocks.{opening_stage}
 use Rattle.batch_record.proofs.status_reading.Reading.new.Goals as goal
 
 pub returns : goal.returns

@@ -18,7 +18,7 @@ loop-at-preserved c =
       unit = c.queue_line.ensures.unit ∙ so_far.unit;
       cut = λ uncut. so_far.cut (c.queue_line.ensures.cut uncut);
       front = so_far.front ++ line ∷ [];
-      splits = lines_more c.args.text.now rest line (drop (at + 1) rest) so_far.front so_far.splits (whole_first rest at (sym c.in-Some.ensures.value))
+      splits = lines_more c.args.text.now rest line (drop (at + 1) rest) so_far.front so_far.splits (whole_first rest at c.in-Some.ensures)
           ∙ ap (λ l. (so_far.front ++ line ∷ []) ++ whole_lines l) (sym (take_rest rest (at + 1)));
       account = λ all told h. subst (λ (l : List (List ℕ)). IsAccount l told c.queue_line.new.self.waiting) (told_line c.args.is_own c.args.self.now.unit c.loop-at.self.unit all so_far.front line so_far.unit)
           (c.queue_line.ensures.account (all ++ filter (is_due c.args.is_own c.args.self.now.unit) so_far.front) told (so_far.account all told h));
@@ -27,5 +27,5 @@ loop-at-preserved c =
 pub returns-clause-account : goal.returns-clause-account
 returns-clause-account c = λ all told h.
     let so_far = c.loop-at.invariant in
-    let is = so_far.splits ∙ ap (λ l. so_far.front ++ l) (whole_none c.loop-at.rest.now (sym c.in_default.ensures.value)) ∙ append-nil so_far.front in
+    let is = so_far.splits ∙ ap (λ l. so_far.front ++ l) (whole_none c.loop-at.rest.now c.in_default.ensures) ∙ append-nil so_far.front in
     subst (λ (l : List (List ℕ)). IsAccount (all ++ filter (is_due c.args.is_own c.args.self.now.unit) l) told c.loop-at.self.waiting) (sym is) (so_far.account all told h)

@@ -1,8 +1,8 @@
 use Rattle.std.proofs.Common.{◌<◌, ℕ, false, List, Option, None, Some, take, get_or, ◌∙◌, ap, eqb, arith}
 use Rattle.std.{specs.Prelude.◌≡◌, specs.Prelude.MatchOption, proofs.lemmas.Bool.eqb-true, proofs.lemmas.Bool.false_from_ne_true, proofs.lemmas.List.get_or-take, proofs.lemmas.List.length-take, proofs.lemmas.List.Elements.All-from_get_or}
 use Rattle.memchr.specs.Find.{IsFirstByte, is_byte}
-use Rattle.batch_record.specs.{StatusReading.HasNoFeed, Taking.EndsLine}
-use Rattle.batch_record.proofs.line_ends.line_feed.Goals as goal
+use Rattle.batch_wire.specs.LineEnds.{EndsLine, HasNoFeed}
+use Rattle.batch_wire.proofs.line_ends.line_feed.Goals as goal
 
 feed-at : (bytes : List ℕ) (o : Option ℕ) → IsFirstByte (is_byte 10) bytes o → MatchOption o (HasNoFeed bytes) (λ at. EndsLine at bytes)
 feed-at bytes None first = All-from_get_or (λ b. eqb b 10 ≡ false) bytes 0 (λ i l. false_from_ne_true (eqb (get_or bytes i 0) 10) (first i (omega arith) l))
