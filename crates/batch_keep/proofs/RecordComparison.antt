@@ -1,7 +1,7 @@
 -- How a record is compared line by line.
 use Rattle.std.proofs.Common.{◌≡◌, ◌<◌, ℕ, ◌+◌, ◌-◌, ◌^◌, Bool, true, false, eqb, List, [], ◌∷◌, ◌++◌, Option, Some, None, cond, count_by, length, min, take, drop, refl, sym, ap, subst, ◌∙◌, append_assoc, arith}
-use Rattle.std.{specs.Prelude.◌==◌, specs.Prelude.◌≢◌, specs.Prelude.MatchOption, specs.Borrow.Bor, proofs.lemmas.Grind.flat_map-append, proofs.lemmas.Bool.eqb-true, proofs.lemmas.List.append_cancel_left, proofs.lemmas.List.drop_more, proofs.lemmas.List.length-append, proofs.lemmas.List.length-drop, proofs.lemmas.List.nil_from_length, proofs.lemmas.List.take-append-drop, proofs.lemmas.List.take_rest, proofs.lemmas.List.Splits.length-slice_split, proofs.lemmas.List.Splits.slice_split_at, proofs.lemmas.List.Splits.slice_split_none}
-use Rattle.batch_wire.specs.{EventLine.is_comment, Transcript.lines_of, LineEnds.EndsLine, LineEnds.HasNoFeed}
+use Rattle.std.{specs.Prelude.◌==◌, specs.Prelude.◌≢◌, specs.Prelude.MatchOption, specs.Borrow.Bor, proofs.lemmas.Grind.flat_map-append, proofs.lemmas.Bool.eqb-true, proofs.lemmas.List.append_cancel_left, proofs.lemmas.List.length-append, proofs.lemmas.List.length-drop, proofs.lemmas.List.nil_from_length, proofs.lemmas.List.take_rest, proofs.lemmas.List.Splits.length-slice_split}
+use Rattle.batch_wire.{proofs.LineEnds.lines_apart, specs.EventLine.is_comment, specs.Transcript.lines_of, specs.LineEnds.EndsLine}
 use Rattle.batch_serve.specs.Replays.{BeginsText}
 use Rattle.batch_keep.specs.{Audits.told_line, Audits.told_text, Comparing.IsCompared, Comparing.TakesLines}
 

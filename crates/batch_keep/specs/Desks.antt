@@ -1,5 +1,5 @@
 -- surface: the answers to several desks over a journal are written again.
-use Rattle.std.specs.Prelude.{◌≡◌, ℕ, ◌≤◌, List, [], ◌++◌, length, get_or, None}
+use Rattle.std.specs.Prelude.{ℕ, ◌≤◌, List, [], ◌++◌, length, get_or, None}
 use Rattle.batch_model.specs.Plant.{Setup, Plant}
 use Rattle.batch_wire.specs.Transcript.{Exchange, Transcript}
 use Rattle.batch_serve.specs.Replays.{BeginsText, ShowsNoWant}

@@ -1,5 +1,5 @@
 -- worked rows: the text of a record's lines without comments, and where its whole lines end.
-use Rattle.std.specs.Prelude.{◌≡◌, ◌≢◌, [], ◌∷◌, codes}
+use Rattle.std.specs.Prelude.{◌≡◌, [], ◌∷◌, codes}
 use Rattle.batch_keep.specs.Audits.{HasLines, number_behind, told_text}
 
 pub record AuditRows : Type 0 where

@@ -1,6 +1,6 @@
 -- How far reading has come.
 use Rattle.std.proofs.Common.{◌≡◌, ℕ, ◌+◌, ◌-◌, ◌^◌, ◌<◌, false, eqb, List, [], ◌∷◌, ◌++◌, length, take, drop, min, Option, Some, None, Result, Ok, IfSome, refl, sym, ap, subst, ◌∙◌, append_assoc, append-nil, arith}
-use Rattle.std.{proofs.lemmas.List.drop_more, proofs.lemmas.List.take-append-drop, proofs.lemmas.List.take_rest, proofs.lemmas.List.Elements.All-append, proofs.KnownBytes.Consumes-trans, proofs.KnownBytes.Consumes-whole, specs.Io.KnownBytes.Consumes, specs.Io.KnownBytes.IsAtEnd, specs.Io.KnownBytes.ReadConsumes}
+use Rattle.std.{proofs.lemmas.List.take_rest, proofs.lemmas.List.Elements.All-append, proofs.KnownBytes.Consumes-trans, proofs.KnownBytes.Consumes-whole, specs.Io.KnownBytes.Consumes, specs.Io.KnownBytes.IsAtEnd, specs.Io.KnownBytes.ReadConsumes}
 use Rattle.batch_model.specs.Lists.{Each}
 use Rattle.batch_wire.{specs.LineEnds.EndsLine, specs.LineEnds.HasNoFeed, proofs.LineEnds.line_apart}
 use Rattle.batch_record.specs.{Blocks.Stage, Blocks.opening_stage, Blocks.stage_after, Blocks.stages, Kept.Keeps, StatusReading.IsRefusedAt, StatusReading.LeadsTo, StatusReading.lines_text, Standings.HasRead, Standings.IsAt, declared.course.RecordCourse.RecordCourse, declared.status_reading.Reading.Reading}

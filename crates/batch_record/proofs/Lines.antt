@@ -1,6 +1,5 @@
 -- Lines of a record, one after the other.
-use Rattle.std.proofs.Common.{◌≡◌, ℕ, ◌+◌, ◌-◌, ◌^◌, List, [], ◌∷◌, ◌++◌, length, take, drop, min, Option, Some, None, true, false, Bool, refl, sym, ap, ◌∙◌, append_assoc, option_map}
-use Rattle.std.proofs.lemmas.List.{drop_more, take-append-drop}
+use Rattle.std.proofs.Common.{◌≡◌, ℕ, ◌+◌, ◌-◌, ◌^◌, List, [], ◌∷◌, ◌++◌, length, take, drop, min, Some, None, true, false, Bool, refl, sym, ap, ◌∙◌, append_assoc, option_map}
 use Rattle.batch_model.specs.{Lists.Each, Runs.Out}
 use Rattle.batch_wire.{specs.LineEnds.HasNoFeed, specs.LineEnds.EndsLine, proofs.LineEnds.line_apart}
 use Rattle.batch_record.{specs.Laws.is_passed_over, specs.RecordLine.out_of_line, specs.Blocks.Stage, specs.Blocks.mark_of, specs.Blocks.stage_after_mark, specs.Blocks.opening_stage, specs.Blocks.stage_after, specs.Blocks.stages, specs.Blocks.stage_after_out, specs.StatusReading.IsRefusedAt, specs.StatusReading.LeadsTo, specs.StatusReading.lines_text, proofs.InputProgress.each-more, proofs.InputProgress.stages-more, proofs.InputProgress.text-more, proofs.InputProgress.length-more, proofs.InputProgress.counted-more}

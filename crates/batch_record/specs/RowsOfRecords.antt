@@ -7,7 +7,7 @@ use Rattle.batch_recipe.specs.Tree.{Phase}
 use Rattle.batch_recipe.specs.declared.need.Need.{Need}
 use Rattle.batch_model.specs.Events.{created, ordered, removed, reported, refused, command_not_accepted, output_left_out, bad_size, bad_value, no_memory}
 use Rattle.batch_model.specs.Moves.{send, state, release, begin, start, end, pass, ask, grant}
-use Rattle.batch_model.specs.Runs.{Out, reply, move}
+use Rattle.batch_model.specs.Runs.{reply, move}
 use Rattle.batch_record.specs.Laws.{is_passed_over}
 use Rattle.batch_record.specs.RecordLine.{out_of_line}
 

@@ -1,6 +1,6 @@
 -- Lines as a journal has them.
 use Rattle.std.proofs.Common.{◌≡◌, ℕ, suc, ◌+◌, ◌-◌, ◌<◌, ◌≤◌, Bool, true, false, not, ◌&&◌, ◌||◌, List, [], ◌∷◌, ◌++◌, length, take, drop, set, map, filter, replicate, Option, Some, None, MatchOption, option_map, Result, Ok, Err, IfOk, OnErr, cond, eqb, get_or, refl, sym, ◌∙◌, ap, subst, append_assoc, append-nil, inl, inr, arith}
-use Rattle.std.{proofs.lemmas.Bool.and_parts, proofs.lemmas.Bool.not-true, proofs.lemmas.Bool.cases_lt, proofs.lemmas.Bool.lt-ltb, proofs.lemmas.Bool.le-ltb, proofs.lemmas.List.take_all, proofs.lemmas.List.take_at, proofs.lemmas.List.take_rest, proofs.lemmas.List.take_more_set, proofs.lemmas.List.map_more, proofs.lemmas.List.length-take, proofs.lemmas.List.length-take-le, proofs.lemmas.List.length-append, proofs.lemmas.List.length-drop, proofs.lemmas.List.take-append-drop, proofs.lemmas.List.take-append-le, proofs.lemmas.List.drop_more, proofs.Math.Seq.take-append-add, specs.List.slice_split, specs.List.onto_first, specs.List.list_all, specs.Io.ReadsAtMost, specs.Io.KnownBytes.Consumes, specs.Io.KnownBytes.IsAtEnd, specs.Io.KnownBytes.Keeps, specs.Io.KnownBytes.ReadConsumes, specs.Prelude.⊤, specs.Str.Lines.strip_carriage_return}
+use Rattle.std.{proofs.lemmas.Bool.and_parts, proofs.lemmas.Bool.not-true, proofs.lemmas.Bool.cases_lt, proofs.lemmas.Bool.lt-ltb, proofs.lemmas.Bool.le-ltb, proofs.lemmas.List.take_all, proofs.lemmas.List.take_at, proofs.lemmas.List.take_rest, proofs.lemmas.List.take_more_set, proofs.lemmas.List.map_more, proofs.lemmas.List.length-take, proofs.lemmas.List.length-take-le, proofs.lemmas.List.length-append, proofs.lemmas.List.length-drop, proofs.lemmas.List.take-append-le, proofs.Math.Seq.take-append-add, specs.List.slice_split, specs.List.onto_first, specs.List.list_all, specs.Io.ReadsAtMost, specs.Io.KnownBytes.Consumes, specs.Io.KnownBytes.IsAtEnd, specs.Io.KnownBytes.Keeps, specs.Io.KnownBytes.ReadConsumes, specs.Prelude.⊤, specs.Str.Lines.strip_carriage_return}
 use borrow.Rule.Slice.PartMut.{put_mid, post_of}
 use Rattle.batch_model.specs.Plant.{Setup, Plant}
 use Rattle.batch_wire.{specs.EventLine.is_space, specs.EventLine.is_word, specs.EventLine.event_words, specs.EventLine.is_comment, specs.EventLine.event_of_words, specs.EventLine.event_of_line, specs.Transcript.lines_of, specs.Transcript.Exchange, specs.Transcript.silence, specs.Transcript.followed_by, specs.Transcript.Answers, specs.Transcript.Transcript, specs.declared.event_line.TheConstants.MAX_LINE_LEN, specs.declared.fault.WireFault.TheVariants.TooLong, specs.LineEnds.EndsLine, specs.LineEnds.HasNoFeed, proofs.LineEnds.line_apart}

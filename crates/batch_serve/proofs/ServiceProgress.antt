@@ -1,6 +1,6 @@
 -- How serving goes on, line after line.
 use Rattle.std.proofs.Common.{◌≡◌, ℕ, ◌+◌, ◌-◌, ◌<◌, ◌≤◌, Bool, false, List, [], ◌∷◌, ◌++◌, Option, Some, None, Result, Ok, Err, MatchResult, IfSome, length, take, drop, refl, sym, ap, ◌∙◌, subst, append_assoc, append-nil, arith, eqb}
-use Rattle.std.{proofs.lemmas.List.drop_more, proofs.lemmas.List.take-append-drop, proofs.lemmas.List.take_all, proofs.lemmas.List.take_rest, proofs.lemmas.List.length-append, proofs.lemmas.List.length-take, proofs.lemmas.List.Elements.All-nil, proofs.lemmas.List.Elements.All-append, proofs.lemmas.List.Splits.slice_split_at, proofs.lemmas.List.Splits.slice_split_none, proofs.Math.Seq.take-append_seam, proofs.Math.Seq.take-append-add, specs.Io.KnownBytes.Appends, specs.Io.KnownBytes.Consumes, specs.Io.KnownBytes.Keeps, specs.Io.KnownBytes.IsAtEnd, specs.Io.KnownBytes.ReadConsumes, proofs.KnownBytes.Appends-trans, proofs.KnownBytes.Appends-nil, proofs.KnownBytes.Consumes-trans}
+use Rattle.std.{proofs.lemmas.List.take_all, proofs.lemmas.List.take_rest, proofs.lemmas.List.length-append, proofs.lemmas.List.length-take, proofs.lemmas.List.Elements.All-nil, proofs.lemmas.List.Elements.All-append, proofs.lemmas.List.Splits.slice_split_at, proofs.lemmas.List.Splits.slice_split_none, proofs.Math.Seq.take-append_seam, proofs.Math.Seq.take-append-add, specs.Io.KnownBytes.Appends, specs.Io.KnownBytes.Consumes, specs.Io.KnownBytes.Keeps, specs.Io.KnownBytes.IsAtEnd, specs.Io.KnownBytes.ReadConsumes, proofs.KnownBytes.Appends-trans, proofs.KnownBytes.Appends-nil, proofs.KnownBytes.Consumes-trans}
 use Rattle.batch_model.specs.Plant.{Setup, Plant}
 use Rattle.batch_wire.{specs.EventLine.event_of_line, specs.Transcript.lines_of, specs.Transcript.whole_lines, specs.Transcript.Exchange, specs.Transcript.silence, specs.Transcript.followed_by, specs.Transcript.Answers, specs.Transcript.Transcript, specs.Written.AppendsBeginning, specs.WrittenTranscript.WritesTranscript, specs.WrittenTranscript.BeginsTranscript, proofs.WrittenTexts.then_beginning, specs.LineEnds.EndsLine, specs.LineEnds.HasNoFeed, proofs.LineEnds.line_apart}
 use Rattle.batch_serve.{specs.Cut.BeginsLinesRead, specs.Serving.IsServed, specs.Serving.IsCutOff, specs.declared.line_buffer.TheConstants.KEPT, proofs.Exchanges.followed-assoc, proofs.Exchanges.followed-silence, proofs.Exchanges.transcript_leads, proofs.LineBeginnings.take_twice, proofs.LineBeginnings.event_of_line-take}

@@ -1,5 +1,5 @@
 -- The whole lines of a text, and those of them that a desk is due.
-use Rattle.std.proofs.Common.{◌≡◌, ◌<◌, ◌≤◌, ◌+◌, ◌-◌, ℕ, suc, Bool, false, List, [], ◌∷◌, ◌++◌, length, take, drop, filter, position, Option, Some, None, ◌==◌, get_or, sym, ap, arith, append_assoc, append-nil, ◌∙◌}
+use Rattle.std.proofs.Common.{◌≡◌, ◌<◌, ◌+◌, ◌-◌, ℕ, suc, Bool, List, [], ◌∷◌, ◌++◌, length, take, drop, filter, Option, ◌==◌, get_or, sym, ap, arith, append_assoc, append-nil, ◌∙◌}
 use Rattle.std.proofs.lemmas.{Grind.flat_map-append, List.take_more, List.Elements.filter-append, List.Splits.length-slice_split}
 use Rattle.batch_serve.specs.{Lines.is_feed, Dues.is_due, Runs.Run, Runs.due_of}
 use Rattle.batch_wire.{specs.LineEnds.EndsLine, specs.LineEnds.HasNoFeed, specs.Transcript.lines_of, specs.Transcript.whole_lines, proofs.LineEnds.last_of, proofs.LineEnds.lines_apart}

@@ -1,5 +1,5 @@
 -- surface: the lines of a record that are due to a desk, by the record's text.
-use Rattle.std.specs.Prelude.{◌≡◌, ℕ, Bool, true, false, not, ◌&&◌, ◌||◌, ◌==◌, nat_eq, List, [], ◌∷◌, ◌++◌, length, drop, filter, Option, Some, None, cond, codes}
+use Rattle.std.specs.Prelude.{◌≡◌, ℕ, Bool, true, false, not, ◌&&◌, ◌||◌, nat_eq, List, [], ◌∷◌, ◌++◌, length, drop, filter, Option, Some, None, cond, codes}
 use Rattle.std.specs.Cmp.Lexicographic.{pointwise}
 use Rattle.std.specs.List.{after_first, list_all, starts_with}
 use Rattle.batch_wire.specs.EventLine.{is_comment, is_space}
