@@ -126,7 +126,8 @@ fn unknown<'a>(
     table: &'a Table,
     kind: TableKind,
 ) -> Result<Wrong<'a>, AllocError> {
-    match unknown_key(keys, table) {
+    let mut names = table.keys().map(|name| name.as_str());
+    match names.find(|name| !is_known(keys, name)) {
         Some(name) => Wrong::with(name, unknown_said(alloc, keys, name, kind)),
         // Some keys of the other two kinds suit one another badly.
         None => match kind {
@@ -150,20 +151,11 @@ fn unknown_said(
     name: &str,
     kind: TableKind,
 ) -> Result<String, AllocError> {
-    let names = names_of(alloc, keys)?;
+    let names: Vec<&str> = keys.iter().map(|key| key.0).collect(alloc)?;
     let known = names.join(alloc, ", ")?;
     let others = others_said(alloc, kind, name)?;
     let meant = meant_said(alloc, name, &names)?;
     format!(in alloc; "the key `{name}` is unknown here; known are {known}{others}{meant}")
-}
-
-/// The names of the keys.
-fn names_of(alloc: Global, keys: &[Key]) -> Result<Vec<&'static str>, AllocError> {
-    let mut names = Vec::new(alloc);
-    for key in keys {
-        names.push(key.0)?;
-    }
-    Ok(names)
 }
 
 /// Says which other tables of the document's kind have the key, if any.
@@ -183,23 +175,8 @@ fn others_said(alloc: Global, kind: TableKind, name: &str) -> Result<String, All
     Ok(said)
 }
 
-/// The first key of the table that isn't one of these.
-fn unknown_key<'a>(keys: &[Key], table: &'a Table) -> Option<&'a str> {
-    for name in table.keys() {
-        if !is_known(keys, name.as_str()) {
-            return Some(name.as_str());
-        }
-    }
-    None
-}
-
 fn is_known(keys: &[Key], name: &str) -> bool {
-    for key in keys {
-        if key.0 == name {
-            return true;
-        }
-    }
-    false
+    keys.iter().any(|key| key.0 == name)
 }
 
 fn wrong_kind(entry: Entry<'_>, key: &'static str) -> Result<Wrong<'static>, AllocError> {
