@@ -1,7 +1,6 @@
 //! The faults in the chart of a table.
 use crate::entry::Entry;
 use crate::lines::line_of;
-use batch_reader::{ChartFault, read_chart};
 use batch_recipe::{MAX_TURNS, MAX_VALUE};
 use std::alloc::AllocError;
 
@@ -14,12 +13,9 @@ impl Entry<'_> {
         format!(in self.alloc; "`chart` is no chart from byte {byte} on{place}{rest}{hint}")
     }
 
-    /// Says which number of the chart is out of its limits. None if it is a chart, or has another fault.
-    pub(crate) fn number_said(self) -> Result<Option<String>, AllocError> {
+    /// Says that the number of the chart that begins at this byte is out of its limits.
+    pub(crate) fn number_said(self, byte: usize) -> Result<String, AllocError> {
         let chart = self.text_at("chart");
-        let Err(ChartFault::OutOfRange(byte)) = read_chart(self.alloc, chart.as_bytes()) else {
-            return Ok(None);
-        };
         let (front, rest) = chart.split_at_checked(byte).unwrap_or(("", ""));
         let number = rest
             .split(|letter: char| !letter.is_ascii_digit())
@@ -27,7 +23,7 @@ impl Entry<'_> {
             .unwrap_or("");
         let place = self.place_said(byte)?;
         let end = if place.is_empty() { "" } else { "," };
-        let said = if front.trim_end().ends_with('(') {
+        if front.trim_end().ends_with('(') {
             format!(in self.alloc;
                 "a loop has 1 to {MAX_TURNS} turns, and `{number}` at byte {byte} of `chart`{place}{end} is none of these"
             )
@@ -35,8 +31,7 @@ impl Entry<'_> {
             format!(in self.alloc;
                 "a number of a condition is at most {MAX_VALUE}, and `{number}` at byte {byte} of `chart`{place}{end} is above it"
             )
-        };
-        Ok(Some(said?))
+        }
     }
 
     /// The line and the column of the chart's byte in the document, from 1, if the document contains the chart as it is read.

@@ -2,11 +2,8 @@
 use crate::entry::Entry;
 use crate::fits::{form_said, given_said};
 use crate::kinds::{kind_said, kinds_beside, word_of};
-use crate::needs::{need_out_of_limit, unreadable_need};
-use batch_reader::{
-    EntryFault, Key, MAX_CHART_LEN, Spot, TableKind, ValueForm, is_chart_word, keys_of,
-};
-use batch_recipe::{MAX_NEED_UNITS, MAX_NEEDS, MAX_NODES, MAX_VALUE};
+use batch_reader::{EntryFault, Key, Spot, TableKind, ValueForm, is_chart_word, keys_of};
+use batch_recipe::{MAX_NEED_UNITS, MAX_NODES, MAX_VALUE};
 use batch_wording::meant_said;
 use std::alloc::{AllocError, Global};
 use toml::{Table, Value};
@@ -83,11 +80,14 @@ pub(crate) fn wrong_at<'a>(
         EntryFault::MissingKey(key) => missing(alloc, key),
         EntryFault::WrongKind(Some(key)) => wrong_kind(entry, key),
         EntryFault::WrongKind(None) => misheaded(alloc, spot.kind),
+        EntryFault::NoNeed(number) => no_need(entry, number),
         EntryFault::UnknownKey => unknown(alloc, keys_of(spot.kind), table, spot.kind),
         EntryFault::Undeclared => entry.undeclared(),
         EntryFault::Duplicate => entry.duplicate(),
         EntryFault::OutOfLimit(Some(key)) => out_of_limit(entry, key),
         EntryFault::OutOfLimit(None) => Wrong::with("", too_many_said(alloc, spot)),
+        EntryFault::NeedOutOfLimit(number) => Wrong::with("needs", units_said(entry, number)),
+        EntryFault::NumberOutOfLimit(byte) => Wrong::with("chart", entry.number_said(byte)),
         EntryFault::Chart(byte) => Wrong::with("chart", entry.no_chart_said(byte)),
     }
 }
@@ -126,7 +126,8 @@ fn unknown<'a>(
     table: &'a Table,
     kind: TableKind,
 ) -> Result<Wrong<'a>, AllocError> {
-    match unknown_key(keys, table) {
+    let mut names = table.keys().map(|name| name.as_str());
+    match names.find(|name| !is_known(keys, name)) {
         Some(name) => Wrong::with(name, unknown_said(alloc, keys, name, kind)),
         // Some keys of the other two kinds suit one another badly.
         None => match kind {
@@ -150,20 +151,11 @@ fn unknown_said(
     name: &str,
     kind: TableKind,
 ) -> Result<String, AllocError> {
-    let names = names_of(alloc, keys)?;
+    let names: Vec<&str> = keys.iter().map(|key| key.0).collect(alloc)?;
     let known = names.join(alloc, ", ")?;
     let others = others_said(alloc, kind, name)?;
     let meant = meant_said(alloc, name, &names)?;
     format!(in alloc; "the key `{name}` is unknown here; known are {known}{others}{meant}")
-}
-
-/// The names of the keys.
-fn names_of(alloc: Global, keys: &[Key]) -> Result<Vec<&'static str>, AllocError> {
-    let mut names = Vec::new(alloc);
-    for key in keys {
-        names.push(key.0)?;
-    }
-    Ok(names)
 }
 
 /// Says which other tables of the document's kind have the key, if any.
@@ -183,43 +175,40 @@ fn others_said(alloc: Global, kind: TableKind, name: &str) -> Result<String, All
     Ok(said)
 }
 
-/// The first key of the table that isn't one of these.
-fn unknown_key<'a>(keys: &[Key], table: &'a Table) -> Option<&'a str> {
-    for name in table.keys() {
-        if !is_known(keys, name.as_str()) {
-            return Some(name.as_str());
-        }
-    }
-    None
-}
-
 fn is_known(keys: &[Key], name: &str) -> bool {
-    for key in keys {
-        if key.0 == name {
-            return true;
-        }
-    }
-    false
+    keys.iter().any(|key| key.0 == name)
 }
 
 fn wrong_kind(entry: Entry<'_>, key: &'static str) -> Result<Wrong<'static>, AllocError> {
     let Entry { alloc, table, .. } = entry;
-    match (key, table.get(key)) {
-        ("needs", Some(Value::Array(needs))) => match unreadable_need(needs) {
-            Some(need) => Wrong::with(
-                key,
-                format!(in alloc;
-                    "`{need}` is no need: a need is the name of a resource, with a star and a number behind it where it is of several units, as `STEAM` or `STEAM*2`, and no spaces"
-                ),
-            ),
-            None => unfit(entry, key, "has to be"),
-        },
-        (_, Some(Value::String(name))) if is_chart_word(name.as_bytes()) => Wrong::with(
+    match table.get(key) {
+        Some(Value::String(name)) if is_chart_word(name.as_bytes()) => Wrong::with(
             key,
             format!(in alloc; "the name `{name}` is a word of charts, which names nothing else"),
         ),
         _ => unfit(entry, key, "has to be"),
     }
+}
+
+/// Says that the need with this number is none, or which form needs are to have if it is no text.
+fn no_need(entry: Entry<'_>, number: usize) -> Result<Wrong<'static>, AllocError> {
+    let Some(need) = entry.need_at(number) else {
+        return unfit(entry, "needs", "has to be");
+    };
+    Wrong::with(
+        "needs",
+        format!(in entry.alloc;
+            "`{need}` is no need: a need is the name of a resource, with a star and a number behind it where it is of several units, as `STEAM` or `STEAM*2`, and no spaces"
+        ),
+    )
+}
+
+/// Says that the units of the need with this number are out of their limits.
+fn units_said(entry: Entry<'_>, number: usize) -> Result<String, AllocError> {
+    let need = entry.need_at(number).unwrap_or("");
+    format!(in entry.alloc;
+        "`{need}` is out of its limits: a need is of 1 to {MAX_NEED_UNITS} units"
+    )
 }
 
 /// Says that the header of a table of this kind has other brackets: a procedure's single ones, any other's double ones.
@@ -257,33 +246,13 @@ fn unfit(entry: Entry<'_>, key: &'static str, front: &str) -> Result<Wrong<'stat
     Wrong::with(key, format!(in alloc; "`{key}` {front} {wanted}{given}"))
 }
 
+/// Says that the value of the key is out of its limits, or that `min`, which is within them, is above `max`.
 fn out_of_limit(entry: Entry<'_>, key: &'static str) -> Result<Wrong<'static>, AllocError> {
-    match part_said(entry, key)? {
-        Some(said) => Wrong::with(key, Ok(said)),
-        None => unfit(entry, key, "is out of its limits: it has to be"),
-    }
-}
-
-/// Says which need or which number of the chart is out of its limits, or that `min` is above `max`. None if the whole value is out of
-/// its limits.
-fn part_said(entry: Entry<'_>, key: &str) -> Result<Option<String>, AllocError> {
-    let Entry { alloc, table, .. } = entry;
-    match (key, table.get(key)) {
-        ("needs", Some(Value::Array(needs))) if needs.len() <= MAX_NEEDS => {
-            match need_out_of_limit(needs) {
-                Some(need) => Ok(Some(format!(in alloc;
-                    "`{need}` is out of its limits: a need is of 1 to {MAX_NEED_UNITS} units"
-                )?)),
-                None => Ok(None),
-            }
-        }
+    match (key, entry.table.get(key)) {
         ("min", Some(Value::Integer(least))) if 0 <= *least && *least <= MAX_VALUE as i64 => {
-            Ok(Some(String::from_str(alloc, "`min` is above `max`")?))
+            Wrong::from_str(entry.alloc, key, "`min` is above `max`")
         }
-        ("chart", Some(Value::String(chart))) if chart.len() <= MAX_CHART_LEN => {
-            entry.number_said()
-        }
-        _ => Ok(None),
+        _ => unfit(entry, key, "is out of its limits: it has to be"),
     }
 }
 

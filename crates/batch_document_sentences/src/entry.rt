@@ -1,5 +1,5 @@
 //! The table of a document that has the fault.
-use crate::declared::text_at;
+use crate::declared::{list_at, text_at};
 use batch_reader::Spot;
 use std::alloc::Global;
 use toml::Table;
@@ -18,5 +18,10 @@ impl<'a> Entry<'a> {
     /// The text that the table has under this key, or an empty one.
     pub(crate) fn text_at(self, key: &str) -> &'a str {
         text_at(self.table, key).unwrap_or("")
+    }
+
+    /// The text of the need with this number.
+    pub(crate) fn need_at(self, number: usize) -> Option<&'a str> {
+        list_at(self.table, "needs").get(number)?.as_str()
     }
 }

@@ -65,12 +65,9 @@ pub(crate) fn given_said(
 
 /// The first text of the list that is no name.
 fn item_said(alloc: Global, items: &[Value]) -> Result<String, AllocError> {
-    for item in items {
-        if let Some(text) = item.as_str() {
-            if !is_name(text.as_bytes()) {
-                return format!(in alloc; ", and `{text}` is no name");
-            }
-        }
+    let mut texts = items.iter().filter_map(Value::as_str);
+    match texts.find(|text| !is_name(text.as_bytes())) {
+        Some(text) => format!(in alloc; ", and `{text}` is no name"),
+        None => Ok(String::new(alloc)),
     }
-    Ok(String::new(alloc))
 }

@@ -11,6 +11,5 @@ mod hints;
 mod kinds;
 mod lines;
 mod names_declared;
-mod needs;
 
 pub use documents::{Asked, document_sentence};

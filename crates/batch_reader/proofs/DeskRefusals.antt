@@ -3,7 +3,7 @@ use Rattle.std.proofs.Common.{◌≡◌, ◌≢◌, ℕ, ◌+◌, ◌⊎◌, inl
 use Rattle.std.{proofs.lemmas.Bool.false≢true, proofs.lemmas.List.length-map, proofs.lemmas.List.map-append, specs.Cmp.Lexicographic.pointwise, specs.List.IsDistinct}
 use Rattle.toml.specs.Data.{Members, get_member}
 use Rattle.batch_cell.proofs.DistinctNames.{IsDistinct-front}
-use Rattle.batch_reader.{proofs.Items.HasTables_same, proofs.OneEntry.HasName_missing, proofs.OneEntry.HasName_unique, specs.Entries.HasName, specs.Entries.HasNumber, specs.Entries.HasTables, specs.Entries.IsTruth, specs.Entries.MayHaveName, specs.Keys.needed, specs.Keys.optional, specs.TableFaults.IsKeyFault, specs.Faults.TellsAt, specs.Faults.TellsIn, specs.declared.fault.EntryFault.EntryFault, specs.declared.fault.EntryFault.TheVariants.MissingKey, specs.declared.fault.EntryFault.TheVariants.WrongKind, specs.declared.fault.EntryFault.TheVariants.UnknownKey, specs.declared.fault.EntryFault.TheVariants.Undeclared, specs.declared.fault.EntryFault.TheVariants.Duplicate, specs.declared.fault.EntryFault.TheVariants.OutOfLimit, specs.declared.fault.EntryFault.TheVariants.Chart, specs.declared.fault.Spot.Spot, specs.declared.fault.TableFault.TableFault, specs.declared.fault.TableFault.TheVariants.Entry, specs.declared.fault.TableFault.TheVariants.Memory, specs.declared.keys.TheConstants.MAX_LAG, specs.DeskNames.HaveDistinctNames, specs.DeskNames.desk_names, specs.DesksDocument.HasLag, specs.DesksDocument.IsDeskTable, specs.DesksDocument.IsDesksTable, specs.DesksDocument.MayHavePath, specs.DesksFaults.HasDeskNameTwice, specs.DesksFaults.HasRightDeskCount, specs.DesksFaults.path_key, specs.declared.desk.Desk.Desk, specs.declared.desk_set.Desks.Desks}
+use Rattle.batch_reader.{proofs.Items.HasTables_same, proofs.OneEntry.HasName_missing, proofs.OneEntry.HasName_unique, specs.Entries.HasName, specs.Entries.HasNumber, specs.Entries.HasTables, specs.Entries.IsTruth, specs.Entries.MayHaveName, specs.Keys.needed, specs.Keys.optional, specs.TableFaults.IsKeyFault, specs.Faults.TellsAt, specs.Faults.TellsIn, specs.declared.fault.EntryFault.EntryFault, specs.declared.fault.EntryFault.TheVariants.MissingKey, specs.declared.fault.EntryFault.TheVariants.WrongKind, specs.declared.fault.EntryFault.TheVariants.OutOfLimit, specs.declared.fault.Spot.Spot, specs.declared.fault.TableFault.TableFault, specs.declared.fault.TableFault.TheVariants.Entry, specs.declared.fault.TableFault.TheVariants.Memory, specs.declared.keys.TheConstants.MAX_LAG, specs.DeskNames.HaveDistinctNames, specs.DeskNames.desk_names, specs.DesksDocument.HasLag, specs.DesksDocument.IsDeskTable, specs.DesksDocument.IsDesksTable, specs.DesksDocument.MayHavePath, specs.DesksFaults.HasDeskNameTwice, specs.DesksFaults.HasRightDeskCount, specs.DesksFaults.path_key, specs.declared.desk.Desk.Desk, specs.declared.desk_set.Desks.Desks}
 use Rattle.batch_reader.specs.declared.fault.TableKind.TheVariants as table
 use Rattle.batch_reader.specs.declared.keys.ValueForm.TheVariants as form
 
@@ -18,20 +18,14 @@ pub name_refused : (key : List ℕ) (ms : Members) (wrong : EntryFault) (name : 
 name_refused key ms (MissingKey named) name has h = HasName_missing key ms name h.2 has
 name_refused key ms (WrongKind named) name has h = h.1.fits name (record { text = rw h.1.found at has.text; valid = has.valid })
 name_refused key ms (OutOfLimit named) name has h = h.1.fits
-name_refused key ms (Chart offset) name has h = h.fits
-name_refused key ms UnknownKey name has h = h
-name_refused key ms Undeclared name has h = h
-name_refused key ms Duplicate name has h = h
+name_refused key ms wrong name has h = assumption
 
 pub optional_name_refused : (key : List ℕ) (ms : Members) (wrong : EntryFault) (name : Option (List ℕ)) → MayHaveName key ms name → IsKeyFault (optional key form.Name) ms wrong → ⊥
 optional_name_refused key ms (MissingKey named) name has h = false≢true h.1
 optional_name_refused key ms (WrongKind named) None has h = let none = rw has at h.1.found in cc none
 optional_name_refused key ms (WrongKind named) (Some name) has h = h.1.fits name (record { text = rw h.1.found at has.text; valid = has.valid })
 optional_name_refused key ms (OutOfLimit named) name has h = h.1.fits
-optional_name_refused key ms (Chart offset) name has h = h.fits
-optional_name_refused key ms UnknownKey name has h = h
-optional_name_refused key ms Undeclared name has h = h
-optional_name_refused key ms Duplicate name has h = h
+optional_name_refused key ms wrong name has h = assumption
 
 pub path_refused : (key : List ℕ) (ms : Members) (wrong : EntryFault) (path : Option (List ℕ)) → MayHavePath key ms path → IsKeyFault (path_key key) ms wrong → ⊥
 path_refused key ms (WrongKind named) None has h = let none = rw has at h.1.found in cc none
@@ -42,19 +36,13 @@ path_refused key ms (OutOfLimit named) (Some path) has h =
     let same : h.1.fits.text ≡ path = cc (found, h.1.fits.found) in
     h.1.fits.fits (rw same has.some) (rw same has.text.short)
 path_refused key ms (MissingKey named) path has h = false≢true h.1
-path_refused key ms (Chart offset) path has h = h.fits
-path_refused key ms UnknownKey path has h = h
-path_refused key ms Undeclared path has h = h
-path_refused key ms Duplicate path has h = h
+path_refused key ms wrong path has h = assumption
 
 pub truth_refused : (key : List ℕ) (ms : Members) (wrong : EntryFault) (truth : Bool) → IsTruth key ms truth → IsKeyFault (optional key form.Truth) ms wrong → ⊥
 truth_refused key ms (MissingKey named) truth has h = false≢true h.1
 truth_refused key ms (WrongKind named) truth has h = let found = rw h.1.found at has in cc (found, h.1.fits)
 truth_refused key ms (OutOfLimit named) truth has h = h.1.fits
-truth_refused key ms (Chart offset) truth has h = h.fits
-truth_refused key ms UnknownKey truth has h = h
-truth_refused key ms Undeclared truth has h = h
-truth_refused key ms Duplicate truth has h = h
+truth_refused key ms wrong truth has h = assumption
 
 pub number_refused : (key : List ℕ) (ms : Members) (low high : ℕ) (wrong : EntryFault) (number : ℕ) → HasNumber key ms low high number
     → IsKeyFault (optional key (form.Number low high)) ms wrong → ⊥
@@ -64,20 +52,14 @@ number_refused key ms low high (OutOfLimit named) number has h =
     let found = rw h.1.found at has.integer in
     let same : h.1.fits.integer ≡ pos number = cc (found, h.1.fits.found) in
     h.1.fits.outside number same has.at_least has.at_most
-number_refused key ms low high (Chart offset) number has h = h.fits
-number_refused key ms low high UnknownKey number has h = h
-number_refused key ms low high Undeclared number has h = h
-number_refused key ms low high Duplicate number has h = h
+number_refused key ms low high wrong number has h = assumption
 
 -- a key that is missing has nothing wrong
 pub missing_refused : (key : List ℕ) (ms : Members) (low high : ℕ) (wrong : EntryFault) → get_member key ms ≡ None → IsKeyFault (optional key (form.Number low high)) ms wrong → ⊥
 missing_refused key ms low high (MissingKey named) missing h = false≢true h.1
 missing_refused key ms low high (WrongKind named) missing h = let none = rw missing at h.1.found in cc none
 missing_refused key ms low high (OutOfLimit named) missing h = let none = rw missing at h.1.found in cc none
-missing_refused key ms low high (Chart offset) missing h = h.fits
-missing_refused key ms low high UnknownKey missing h = h
-missing_refused key ms low high Undeclared missing h = h
-missing_refused key ms low high Duplicate missing h = h
+missing_refused key ms low high wrong missing h = assumption
 
 lag_refused : (ms : Members) (wrong : EntryFault) (lag : ℕ) → HasLag ms lag → IsKeyFault (optional (codes "lag") (form.Number 1 MAX_LAG)) ms wrong → ⊥
 lag_refused ms wrong lag (inl has) h = number_refused (codes "lag") ms 1 MAX_LAG wrong lag has h

@@ -2,7 +2,7 @@
 use Rattle.std.proofs.Common.{◌≡◌, ◌≢◌, ℕ, ◌<◌, ◌≤◌, ℤ, nat_lt, Bool, true, false, inl, inr, List, [], ◌∷◌, length, Option, Some, None, Result, Ok, Err, if◌then◌else◌, is_some, IfErr, refl, sym, ap, ◌∙◌, subst, arith, codes}
 use Rattle.std.{proofs.lemmas.Bool.Decides.nat_tests, specs.List.slice_get, specs.Borrow.Bor, specs.Option.option_map_or}
 use Rattle.toml.specs.Data.{Data, Items, no_items, item, Members, get_member, as_str, as_integer, as_bool, as_array}
-use Rattle.batch_reader.specs.{Entries.AllItems, Entries.IsNameItem, Entries.HasName, Entries.HasLabel, Entries.HasNameOr, Entries.HasText, Entries.MayHaveName, Entries.MayHaveText, Entries.HasNumber, Entries.HasNames, Entries.HasFewNames, Entries.IsTruth, Entries.items_at, Faults.IsToldAs, Faults.TellsAt, Faults.missing_or_wrong, Faults.value_fault, Faults.kind_fault, Faults.few_names_fault, Keys.Key, Keys.needed, Keys.optional, Keys.keys_of, Keys.may_stand, TableFaults.HasValue, TableFaults.IsOutOfLimits, TableFaults.count_items, TableFaults.IsKeyFault, TableFaults.IsTableFault, declared.fault.EntryFault.EntryFault, declared.fault.EntryFault.TheVariants.MissingKey, declared.fault.EntryFault.TheVariants.WrongKind, declared.fault.EntryFault.TheVariants.UnknownKey, declared.fault.EntryFault.TheVariants.Undeclared, declared.fault.EntryFault.TheVariants.Duplicate, declared.fault.EntryFault.TheVariants.OutOfLimit, declared.fault.EntryFault.TheVariants.Chart, declared.fault.Spot.Spot, declared.fault.TableFault.TableFault, declared.fault.TableFault.TheVariants.Entry, declared.fault.TableFault.TheVariants.Memory, declared.fault.TableKind.TableKind}
+use Rattle.batch_reader.specs.{Entries.AllItems, Entries.IsNameItem, Entries.HasName, Entries.HasLabel, Entries.HasNameOr, Entries.HasText, Entries.MayHaveName, Entries.MayHaveText, Entries.HasNumber, Entries.HasNames, Entries.HasFewNames, Entries.IsTruth, Entries.items_at, Faults.IsToldAs, Faults.TellsAt, Faults.missing_or_wrong, Faults.value_fault, Faults.kind_fault, Faults.few_names_fault, Keys.Key, Keys.needed, Keys.optional, Keys.keys_of, Keys.may_stand, TableFaults.HasValue, TableFaults.IsOutOfLimits, TableFaults.count_items, TableFaults.IsKeyFault, TableFaults.IsTableFault, declared.fault.EntryFault.EntryFault, declared.fault.EntryFault.TheVariants.MissingKey, declared.fault.EntryFault.TheVariants.WrongKind, declared.fault.EntryFault.TheVariants.OutOfLimit, declared.fault.Spot.Spot, declared.fault.TableFault.TableFault, declared.fault.TableFault.TheVariants.Entry, declared.fault.TableFault.TheVariants.Memory, declared.fault.TableKind.TableKind}
 use Rattle.batch_reader.specs.declared.keys.ValueForm.TheVariants as form
 
 -- a table that is refused as this, and only where this is wrong, has the fault
@@ -32,12 +32,7 @@ name_told key ms spot fault refused told = told_as (IsKeyFault (needed key.now f
 pub optional_fault : (key : List ℕ) (ms : Members) → is_some (get_member key ms) ≡ true → (wrong : EntryFault) → IsKeyFault (needed key form.Name) ms wrong
     → IsKeyFault (optional key form.Name) ms wrong
 optional_fault key ms some (MissingKey named) h = (h.0, sym (ap is_some h.2) ∙ some, h.2)
-optional_fault key ms some (WrongKind named) h = h
-optional_fault key ms some (OutOfLimit named) h = h
-optional_fault key ms some (Chart offset) h = h
-optional_fault key ms some UnknownKey h = h
-optional_fault key ms some Undeclared h = h
-optional_fault key ms some Duplicate h = h
+optional_fault key ms some wrong h = h
 
 label_fault : (key : Bor (List ℕ)) (ms : Members) (found : Option Data) → get_member key.now ms ≡ found → ((name : List ℕ) → HasLabel key.now ms name → ⊥)
     → IsKeyFault (needed key.now form.FreeName) ms (missing_or_wrong key found)
@@ -134,10 +129,7 @@ least_fault : (key : List ℕ) (ms : Members) (high : ℕ) (wrong : EntryFault) 
 least_fault key ms high (MissingKey named) h = h
 least_fault key ms high (WrongKind named) h = h
 least_fault key ms high (OutOfLimit named) h = (h.0, record { here = h.1.here; found = h.1.found; fits = inl h.1.fits })
-least_fault key ms high (Chart offset) h = record { here = h.here; found = h.found; fits = h.fits }
-least_fault key ms high UnknownKey h = h
-least_fault key ms high Undeclared h = h
-least_fault key ms high Duplicate h = h
+least_fault key ms high wrong h = absurd assumption
 
 pub least_told : (key : Bor (List ℕ)) (ms : Members) (high : ℕ) (spot : Spot) (fault : TableFault) → ((n : ℕ) → HasNumber key.now ms 0 high n → ⊥)
     → fault ≡ Entry spot (value_fault key as_integer (get_member key.now ms)) → TellsAt spot (IsKeyFault (needed key.now (form.Least high)) ms) fault

@@ -4,7 +4,7 @@ use Rattle.std.{proofs.lemmas.List.take_more, proofs.lemmas.List.Elements.All-ap
 use Rattle.batch_cell.specs.{Equipment.OffersPhasesOnce, Equipment.unit_phases, declared.module.Module.Module, declared.unit.Unit.Unit}
 use Rattle.batch_recipe.specs.{Conditions.Name, Procedure.procedure_nodes, WellFormed.value_names, declared.act.Act.Act, declared.acts.Acts.Acts, declared.outline_fault.OutlineFault.OutlineFault, declared.quantity.Quantity.Quantity, declared.recipe.Recipe.Recipe, declared.recipe.TheConstants.MAX_NODES}
 use Rattle.batch_recipe.specs.declared.outline_fault.OutlineFault.TheVariants as outline
-use Rattle.batch_reader.specs.{Faults.IsNamingFault, Faults.IsReportFault, Faults.IsRoleFault, Faults.IsToldIn, Faults.IsWrong, Faults.Tells, PartFaults.AreDistinct, PartFaults.FailsFirst, PartFaults.HasReserveFault, PartFaults.HasUndeclaredName, PartFaults.IsPartFault, PartFaults.IsReserveFaultOf, PartFaults.OffersTwice, PartFaults.Parts, SoundTables.outline_fault, declared.fault.EntryFault.EntryFault, declared.fault.EntryFault.TheVariants.MissingKey, declared.fault.EntryFault.TheVariants.WrongKind, declared.fault.EntryFault.TheVariants.UnknownKey, declared.fault.EntryFault.TheVariants.Undeclared, declared.fault.EntryFault.TheVariants.Duplicate, declared.fault.EntryFault.TheVariants.OutOfLimit, declared.fault.EntryFault.TheVariants.Chart, declared.fault.Spot.Spot, declared.fault.TableFault.TableFault, declared.fault.TableFault.TheVariants.Entry, declared.fault.TableFault.TheVariants.Memory, declared.fault.TableKind.TableKind}
+use Rattle.batch_reader.specs.{Faults.IsNamingFault, Faults.IsReportFault, Faults.IsRoleFault, Faults.IsToldIn, Faults.IsWrong, Faults.Tells, PartFaults.AreDistinct, PartFaults.FailsFirst, PartFaults.HasReserveFault, PartFaults.HasUndeclaredName, PartFaults.IsPartFault, PartFaults.IsReserveFaultOf, PartFaults.OffersTwice, PartFaults.Parts, SoundTables.outline_fault, declared.fault.EntryFault.EntryFault, declared.fault.EntryFault.TheVariants.Undeclared, declared.fault.EntryFault.TheVariants.Duplicate, declared.fault.Spot.Spot, declared.fault.TableFault.TableFault, declared.fault.TableFault.TheVariants.Entry, declared.fault.TableFault.TheVariants.Memory, declared.fault.TableKind.TableKind}
 use Rattle.batch_reader.specs.declared.fault.TableKind.TheVariants as table_kind
 
 -- if the fault is known, or also the kind of its table, it is reported of the spot
@@ -73,32 +73,20 @@ undeclared_told inputs parameters outputs acts values (Entry here wrong) same is
 
 -- a fault among names is a fault of a recipe's parts
 pub naming_fault : (p : Parts) (kind : TableKind) (entry : ℕ) (wrong : EntryFault) → IsNamingFault p.inputs p.parameters p.outputs p.acts kind entry wrong → IsPartFault p kind entry wrong
-naming_fault p kind entry (MissingKey named) h = h
-naming_fault p kind entry (WrongKind named) h = h
-naming_fault p kind entry UnknownKey h = h
 naming_fault p kind entry Undeclared h = inl h
 naming_fault p kind entry Duplicate (inl h) = inl h
 naming_fault p kind entry Duplicate (inr h) = inr (inr (inl h))
-naming_fault p kind entry (OutOfLimit named) h = absurd h
-naming_fault p kind entry (Chart offset) h = h
+naming_fault p kind entry wrong h = absurd h
 
 pub role_fault : (p : Parts) (kind : TableKind) (entry : ℕ) (wrong : EntryFault) → IsRoleFault p.roles p.acts kind entry wrong → IsPartFault p kind entry wrong
-role_fault p kind entry (MissingKey named) h = h
-role_fault p kind entry (WrongKind named) h = h
-role_fault p kind entry UnknownKey h = h
 role_fault p kind entry Undeclared h = inr (inl h)
 role_fault p kind entry Duplicate h = inr (inl h)
-role_fault p kind entry (OutOfLimit named) h = absurd h
-role_fault p kind entry (Chart offset) h = h
+role_fault p kind entry wrong h = absurd h
 
 pub report_fault : (p : Parts) (kind : TableKind) (entry : ℕ) (wrong : EntryFault) → IsReportFault p.outputs p.acts kind entry wrong → IsPartFault p kind entry wrong
-report_fault p kind entry (MissingKey named) h = h
-report_fault p kind entry (WrongKind named) h = h
-report_fault p kind entry UnknownKey h = h
 report_fault p kind entry Undeclared h = inr (inr (inl h))
 report_fault p kind entry Duplicate h = inr (inr (inr (inl h)))
-report_fault p kind entry (OutOfLimit named) h = absurd h
-report_fault p kind entry (Chart offset) h = h
+report_fault p kind entry wrong h = absurd h
 
 -- the names that acts reserve have no other fault
 no_reserve_fault : (acts : Acts) (kind : TableKind) (entry : ℕ) (wrong : EntryFault) → ((names : List Name) (table : List Act) → IsReserveFaultOf names table entry wrong → ⊥)
@@ -106,26 +94,12 @@ no_reserve_fault : (acts : Acts) (kind : TableKind) (entry : ℕ) (wrong : Entry
 no_reserve_fault acts table_kind.UnitProcedure entry wrong none h = none _ _ h
 no_reserve_fault acts table_kind.Operation entry wrong none h = none _ _ h
 no_reserve_fault acts table_kind.Phase entry wrong none h = none _ _ h
-no_reserve_fault acts table_kind.Cell entry wrong none h = h
-no_reserve_fault acts table_kind.Unit entry wrong none h = h
-no_reserve_fault acts table_kind.Module entry wrong none h = h
-no_reserve_fault acts table_kind.Shared entry wrong none h = h
-no_reserve_fault acts table_kind.Recipe entry wrong none h = h
-no_reserve_fault acts table_kind.Input entry wrong none h = h
-no_reserve_fault acts table_kind.Parameter entry wrong none h = h
-no_reserve_fault acts table_kind.Output entry wrong none h = h
-no_reserve_fault acts table_kind.Role entry wrong none h = h
-no_reserve_fault acts table_kind.Procedure entry wrong none h = h
-no_reserve_fault acts table_kind.Desk entry wrong none h = h
+no_reserve_fault acts kind entry wrong none h = h
 
 pub reserve_fault : (p : Parts) (kind : TableKind) (entry : ℕ) (wrong : EntryFault) → HasReserveFault p.acts kind entry wrong → IsPartFault p kind entry wrong
 reserve_fault p kind entry Undeclared h = inr (inr (inr h))
 reserve_fault p kind entry Duplicate h = inr (inr (inr (inr h)))
-reserve_fault p kind entry (MissingKey named) h = no_reserve_fault p.acts kind entry (MissingKey named) (λ names table f. f) h
-reserve_fault p kind entry (WrongKind named) h = no_reserve_fault p.acts kind entry (WrongKind named) (λ names table f. f) h
-reserve_fault p kind entry UnknownKey h = no_reserve_fault p.acts kind entry UnknownKey (λ names table f. f) h
-reserve_fault p kind entry (OutOfLimit named) h = absurd (no_reserve_fault p.acts kind entry (OutOfLimit named) (λ names table f. f) h)
-reserve_fault p kind entry (Chart offset) h = no_reserve_fault p.acts kind entry (Chart offset) (λ names table f. f) h
+reserve_fault p kind entry wrong h = absurd (no_reserve_fault p.acts kind entry wrong (λ names table f. f) h)
 
 -- the expanded tree is too large
 pub large_told : (p : Parts) (fault : OutlineFault) → (IsErrOf {T = Recipe} (Err fault) outline.TooMany → MAX_NODES < length (procedure_nodes p.acts))

@@ -6,7 +6,7 @@ use Rattle.batch_recipe.specs.{Diagram.Diagram, declared.need.Need.Need, Needs.h
 use Rattle.batch_reader.{proofs.ChartReader.at_most_one, specs.ChartGrammar.IsChart, proofs.Items.AllItems_same, specs.Entries.AllItems, specs.Entries.IsNameItem, specs.Entries.HasLabel, specs.Entries.HasName, specs.Entries.HasNameOr, specs.Entries.HasChart, specs.Entries.HasFew, specs.Entries.HasFewNames, specs.Entries.HasFewNeeds, specs.Entries.IsNeedItem, specs.Entries.HasTable, specs.Entries.items_at, specs.Faults.few_names_fault, specs.TableFaults.count_items, specs.declared.fault.EntryFault.TheVariants.OutOfLimit, specs.declared.fault.EntryFault.TheVariants.WrongKind, specs.NeedText.IsNeedCut, specs.NeedText.is_star}
 
 -- a list has as many items as it says names
-AllItems_length : {X : Type 0} (R : Data → X → Type 0) (vs : List Value) (xs : List X) → AllItems R (items_view vs) xs → length vs ≡ length xs
+pub AllItems_length : {X : Type 0} (R : Data → X → Type 0) (vs : List Value) (xs : List X) → AllItems R (items_view vs) xs → length vs ≡ length xs
 AllItems_length R (v ∷ vs) (x ∷ xs) h = omega (arith, AllItems_length R vs xs h.1)
 AllItems_length R vs xs h = grind arith
 

@@ -15,9 +15,9 @@ use Rattle.batch_reader.specs.declared.chart_reading.TheConstants.{MAX_CHART_LEN
 use Rattle.batch_reader.specs.Entries.{HasText}
 use Rattle.batch_reader.specs.NeedText.{is_star}
 use Rattle.batch_reader.specs.PartFaults.{HasActTwice, HasRoleTwice, HasUndeclaredName, HasUndeclaredRole, HasReportTwice, HasUndeclaredReport, HasValueTwice}
-use Rattle.batch_reader.specs.TableFaults.{count_items, HasItem, NamesKey, IsNoNeedCut, HasTooManyUnits, IsNoNeed, IsNeedOutOfLimits, IsTableFault}
+use Rattle.batch_reader.specs.TableFaults.{count_items, IsFirstNoNeed, IsNoNeedCut, HasTooManyUnits, IsNoNeed, IsNeedOutOfLimits, IsTableFault}
 use Rattle.batch_reader.specs.declared.fault.EntryFault.{EntryFault}
-use Rattle.batch_reader.specs.declared.fault.EntryFault.TheVariants.{MissingKey, WrongKind, Undeclared, Duplicate, OutOfLimit}
+use Rattle.batch_reader.specs.declared.fault.EntryFault.TheVariants.{MissingKey, WrongKind, NoNeed, Undeclared, Duplicate, OutOfLimit, NeedOutOfLimit}
 use Rattle.batch_reader.specs.declared.fault.Spot.{Spot}
 use Rattle.batch_reader.specs.declared.fault.TableFault.{TableFault}
 use Rattle.batch_reader.specs.declared.fault.TableFault.TheVariants.{Entry, Memory}
@@ -72,29 +72,29 @@ abbrev pub Tells : (Spot → EntryFault → Type 0) → TableFault → Type 0
 Tells Is (Entry here wrong) = Is here wrong
 Tells Is Memory = ⊤
 
--- this is wrong with the text as that of a number of units, among the needs at the key
-abbrev pub IsUnitsFault : List ℕ → List ℕ → EntryFault → Type 0
-IsUnitsFault key text (WrongKind named) = NamesKey key named × ¬ IsNumber text
-IsUnitsFault key text (OutOfLimit named) = NamesKey key named × IsNumber text × (1 ≤ number_of text → number_of text ≤ MAX_NEED_UNITS → ⊥)
-IsUnitsFault key text _ = ⊥
+-- this is wrong with the text as the number of units of the need with this number
+abbrev pub IsUnitsFault : ℕ → List ℕ → EntryFault → Type 0
+IsUnitsFault number text (NoNeed told) = (told ≡ number) × ¬ IsNumber text
+IsUnitsFault number text (NeedOutOfLimit told) = (told ≡ number) × IsNumber text × (1 ≤ number_of text → number_of text ≤ MAX_NEED_UNITS → ⊥)
+IsUnitsFault number text _ = ⊥
 
--- this is wrong with the text as that of a need, at the key
-abbrev pub IsNeedTextFault : List ℕ → List ℕ → EntryFault → Type 0
-IsNeedTextFault key text (WrongKind named) = NamesKey key named × IsNoNeedCut (position is_star text) text
-IsNeedTextFault key text (OutOfLimit named) = NamesKey key named × HasTooManyUnits (position is_star text) text
-IsNeedTextFault key text _ = ⊥
+-- this is wrong with the text as the need with this number
+abbrev pub IsNeedTextFault : ℕ → List ℕ → EntryFault → Type 0
+IsNeedTextFault number text (NoNeed told) = (told ≡ number) × IsNoNeedCut (position is_star text) text
+IsNeedTextFault number text (NeedOutOfLimit told) = (told ≡ number) × HasTooManyUnits (position is_star text) text
+IsNeedTextFault number text _ = ⊥
 
--- this is wrong with the value as a need, at the key
-abbrev pub IsNeedFault : List ℕ → Data → EntryFault → Type 0
-IsNeedFault key d (WrongKind named) = NamesKey key named × IsNoNeed d
-IsNeedFault key d (OutOfLimit named) = NamesKey key named × IsNeedOutOfLimits d
-IsNeedFault key d _ = ⊥
+-- this is wrong with the value as the need with this number
+abbrev pub IsNeedFault : ℕ → Data → EntryFault → Type 0
+IsNeedFault number d (NoNeed told) = (told ≡ number) × IsNoNeed d
+IsNeedFault number d (NeedOutOfLimit told) = (told ≡ number) × IsNeedOutOfLimits d
+IsNeedFault number d _ = ⊥
 
--- this is wrong with the items as the needs at the key
-abbrev pub IsNeedsFault : List ℕ → Items → EntryFault → Type 0
-IsNeedsFault key items (WrongKind named) = NamesKey key named × HasItem IsNoNeed items
-IsNeedsFault key items (OutOfLimit named) = NamesKey key named × HasItem IsNeedOutOfLimits items
-IsNeedsFault key items _ = ⊥
+-- this is wrong with the items as needs
+abbrev pub IsNeedsFault : Items → EntryFault → Type 0
+IsNeedsFault items (NoNeed number) = IsFirstNoNeed IsNoNeed items number
+IsNeedsFault items (NeedOutOfLimit number) = IsFirstNoNeed IsNeedOutOfLimits items number
+IsNeedsFault items _ = ⊥
 
 -- this is wrong with the table of an act of this kind
 abbrev pub IsActFault : TableKind → Members → EntryFault → Type 0

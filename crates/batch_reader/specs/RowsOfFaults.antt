@@ -1,13 +1,15 @@
 -- worked rows: faults that a document has, and faults that it doesn't have.
-use Rattle.std.specs.Prelude.{◌≡◌, ℕ, List, [], ◌∷◌, Option, Some, None, codes}
+use Rattle.std.specs.Prelude.{◌≡◌, ◌≢◌, ℕ, List, [], ◌∷◌, Option, Some, None, codes}
 use Rattle.std.specs.Borrow.{Bor}
-use Rattle.toml.specs.Data.{Members, no_members, member, no_items, item, string, array, table}
+use Rattle.toml.specs.Data.{Items, Members, no_members, member, no_items, item, string, array, table}
 use Rattle.batch_cell.specs.declared.module.Module.{Module}
 use Rattle.batch_recipe.specs.declared.act.Act.{Act}
+use Rattle.batch_reader.specs.Keys.{needed}
 use Rattle.batch_reader.specs.PartFaults.{HasUndeclaredUnit, IsCountFault, IsReserveFaultOf}
-use Rattle.batch_reader.specs.TableFaults.{IsFaultOfTable, IsNoChartAt}
-use Rattle.batch_reader.specs.declared.fault.EntryFault.TheVariants.{Duplicate, MissingKey, Undeclared, UnknownKey}
+use Rattle.batch_reader.specs.TableFaults.{IsFaultOfTable, IsFirstNoNeed, IsKeyFault, IsNeedOutOfLimits, IsNoChartAt, IsNoNeed}
+use Rattle.batch_reader.specs.declared.fault.EntryFault.TheVariants.{Duplicate, MissingKey, NumberOutOfLimit, OutOfLimit, Undeclared, UnknownKey}
 use Rattle.batch_reader.specs.declared.fault.TableKind.TheVariants as table_kind
+use Rattle.batch_reader.specs.declared.keys.ValueForm.TheVariants as form
 
 -- `cell = "C"` and `[[unit]]`, which has no name
 abbrev pub nameless : Members
@@ -57,9 +59,41 @@ NeitherIsMissing =
     ((key : Bor (List ℕ)) → key.now ≡ codes "unit" → IsFaultOfTable (one_unit_procedure (λ rest. rest)) table_kind.UnitProcedure 0 (MissingKey (Some key)))
     × (¬ IsFaultOfTable (one_unit_procedure (λ rest. rest)) table_kind.UnitProcedure 0 UnknownKey)
 
+-- of three needs the second is none, and so is the third
+abbrev pub three_needs : Items
+three_needs = item (string (codes "STEAM")) (item (string (codes "2*STEAM")) (item (string (codes "*2")) no_items))
+
+abbrev pub SecondNeedIsNone : Type 0
+SecondNeedIsNone = IsFirstNoNeed IsNoNeed three_needs 1
+
+-- no need is told that is right, or that isn't the first at fault
+abbrev pub NoOtherNeedIsTold : Type 0
+NoOtherNeedIsTold = (¬ IsFirstNoNeed IsNoNeed three_needs 0) × (¬ IsFirstNoNeed IsNoNeed three_needs 2)
+
+-- a need of no units, or of 1,001, is out of its limits, and one of 1,000 isn't
+abbrev pub UnitsAreTold : Type 0
+UnitsAreTold = IsNeedOutOfLimits (string (codes "STEAM*0")) × IsNeedOutOfLimits (string (codes "STEAM*1001")) × (¬ IsNeedOutOfLimits (string (codes "STEAM*1000")))
+
 -- a text that begins with `s` isn't at fault there, since `skip` does too
 abbrev pub FirstByteIsGood : Type 0
 FirstByteIsGood = ¬ IsNoChartAt 0 (codes "seq(ADD")
+
+-- a loop of no turns, in a table with this chart alone
+abbrev pub no_turns : List ℕ
+no_turns = codes "loop(0,P>1,skip)"
+
+abbrev pub with_no_turns : Members
+with_no_turns = member (codes "chart") (string no_turns) no_members
+
+-- its number is at fault, and no other
+abbrev pub NoTurnsAreTold : Type 0
+NoTurnsAreTold =
+    IsKeyFault (needed (codes "chart") form.Chart) with_no_turns (NumberOutOfLimit 5)
+    × ((offset : ℕ) → offset ≢ 5 → ¬ IsKeyFault (needed (codes "chart") form.Chart) with_no_turns (NumberOutOfLimit offset))
+
+-- the text isn't too long
+abbrev pub NoTurnsAreShort : Type 0
+NoTurnsAreShort = (key : Option (Bor (List ℕ))) → ¬ IsKeyFault (needed (codes "chart") form.Chart) with_no_turns (OutOfLimit key)
 
 -- a module of the unit MIXER in a cell without it, and no module after it
 abbrev pub FirstModuleIsUndeclared : Type 0

@@ -6,17 +6,18 @@ use Rattle.toml.specs.Data.{Data, Items, no_items, item, get_item, Members, get_
 use Rattle.batch_text.specs.NameText.{IsName}
 use Rattle.batch_text.specs.NumberText.{IsNumber, number_of}
 use Rattle.batch_recipe.specs.Diagram.{Diagram}
+use Rattle.batch_recipe.specs.declared.need.Need.{Need}
 use Rattle.batch_recipe.specs.declared.need.TheConstants.{MAX_NEED_UNITS}
 use Rattle.batch_reader.specs.ChartAnswer.{HasFaultAt, IsOutsideAt, IsRead}
 use Rattle.batch_reader.specs.ChartGrammar.{IsLabel}
 use Rattle.batch_reader.specs.declared.chart_reading.TheConstants.{MAX_CHART_LEN}
-use Rattle.batch_reader.specs.Entries.{AllItems, IsNameItem, items_at}
+use Rattle.batch_reader.specs.Entries.{AllItems, IsNameItem, IsNeedItem, items_at}
 use Rattle.batch_reader.specs.Keys.{Key, has_known_keys, keys_of, may_stand}
 use Rattle.batch_reader.specs.NeedText.{is_star}
 use Rattle.batch_reader.specs.RightTables.{IsRightTable}
 use Rattle.batch_reader.specs.Words.{table_word}
 use Rattle.batch_reader.specs.declared.fault.EntryFault.{EntryFault}
-use Rattle.batch_reader.specs.declared.fault.EntryFault.TheVariants.{MissingKey, WrongKind, UnknownKey, Undeclared, Duplicate, OutOfLimit, Chart}
+use Rattle.batch_reader.specs.declared.fault.EntryFault.TheVariants.{MissingKey, WrongKind, NoNeed, UnknownKey, Undeclared, Duplicate, OutOfLimit, NeedOutOfLimit, NumberOutOfLimit, Chart}
 use Rattle.batch_reader.specs.declared.fault.TableKind.{TableKind}
 use Rattle.batch_reader.specs.declared.fault.TableKind.TheVariants.{Cell, Recipe, Procedure}
 use Rattle.batch_reader.specs.declared.keys.ValueForm.{ValueForm}
@@ -25,13 +26,6 @@ use Rattle.batch_reader.specs.declared.keys.ValueForm.TheVariants as form
 abbrev pub count_items : Items → ℕ
 count_items no_items = 0
 count_items (item d ds) = 1 + count_items ds
-
--- one of the items has this property
-pub record HasItem (Is : Data → Type 0) (items : Items) : Type 0 where
-  pub place : ℕ
-  pub here : Data
-  pub found : get_item place items ≡ Some here
-  pub fits : Is here
 
 -- the value is a text that has this property
 pub record IsTextThat (Is : List ℕ → Type 0) (d : Data) : Type 0 where
@@ -57,6 +51,13 @@ IsNoNeed d = (text : List ℕ) → as_str d ≡ Some text → IsNoNeedCut (posit
 abbrev pub IsNeedOutOfLimits : Data → Type 0
 IsNeedOutOfLimits = IsTextThat (λ text. HasTooManyUnits (position is_star text) text)
 
+-- the item with this number has this property, and each before it is a need
+pub record IsFirstNoNeed (Is : Data → Type 0) (items : Items) (number : ℕ) : Type 0 where
+  pub here : Data
+  pub found : get_item number items ≡ Some here
+  pub fits : Is here
+  pub before : (n : ℕ) (d : Data) → n < number → get_item n items ≡ Some d → (need : Need) × IsNeedItem d need
+
 -- ---- values
 
 -- the value is no list, or its items have this property
@@ -77,7 +78,7 @@ IsOfWrongKind (form.Number low high) d = as_integer d ≡ None
 IsOfWrongKind (form.Least high) d = as_integer d ≡ None
 IsOfWrongKind form.Truth d = as_bool d ≡ None
 IsOfWrongKind (form.Names least most) d = IsNoListOr AreNoNames (as_array d)
-IsOfWrongKind (form.Needs most) d = IsNoListOr (HasItem IsNoNeed) (as_array d)
+IsOfWrongKind (form.Needs most) d = as_array d ≡ None
 IsOfWrongKind form.Chart d = as_str d ≡ None
 IsOfWrongKind form.ChartWithoutPar d = as_str d ≡ None
 IsOfWrongKind form.Tables d = ⊥
@@ -102,10 +103,6 @@ pub record IsListThat (Is : Items → Type 0) (d : Data) : Type 0 where
   pub found : as_array d ≡ Some items
   pub fits : Is items
 
--- the text is too long, or of a chart but for a number that is out of range
-abbrev pub IsChartOutOfLimits : List ℕ → Type 0
-IsChartOutOfLimits text = (MAX_CHART_LEN < length text) ⊎ ((offset : ℕ) × IsOutsideAt text offset)
-
 -- the value in this table is of the form but for its limits
 abbrev pub IsOutOfLimits : ValueForm → Members → Data → Type 0
 IsOutOfLimits form.Name table d = ⊥
@@ -116,10 +113,15 @@ IsOutOfLimits (form.Number low high) table d = IsIntegerOutside low high d
 IsOutOfLimits (form.Least high) table d = IsIntegerOutside 0 high d ⊎ IsNumberAbove (codes "max") table d
 IsOutOfLimits form.Truth table d = ⊥
 IsOutOfLimits (form.Names least most) table d = IsListThat (λ items. least ≤ count_items items → count_items items ≤ most → ⊥) d
-IsOutOfLimits (form.Needs most) table d = IsListThat (λ items. (most < count_items items) ⊎ HasItem IsNeedOutOfLimits items) d
-IsOutOfLimits form.Chart table d = IsTextThat IsChartOutOfLimits d
-IsOutOfLimits form.ChartWithoutPar table d = IsTextThat IsChartOutOfLimits d
+IsOutOfLimits (form.Needs most) table d = IsListThat (λ items. most < count_items items) d
+IsOutOfLimits form.Chart table d = IsTextThat (λ text. MAX_CHART_LEN < length text) d
+IsOutOfLimits form.ChartWithoutPar table d = IsTextThat (λ text. MAX_CHART_LEN < length text) d
 IsOutOfLimits form.Tables table d = ⊥
+
+-- the value is a list of needs up to the item with this number, which has this property
+abbrev pub HasNeedThat : (Data → Type 0) → ValueForm → ℕ → Data → Type 0
+HasNeedThat Is (form.Needs most) number d = IsListThat (λ items. IsFirstNoNeed Is items number) d
+HasNeedThat Is _ number d = ⊥
 
 -- the text isn't too long, and is of no chart: at the offset its longest front ends that begins a text of a chart
 abbrev pub IsNoChartAt : ℕ → List ℕ → Type 0
@@ -134,6 +136,12 @@ abbrev pub HasChartFaultAt : ValueForm → ℕ → Data → Type 0
 HasChartFaultAt form.Chart offset d = IsTextThat (IsNoChartAt offset) d
 HasChartFaultAt form.ChartWithoutPar offset d = IsTextThat (λ text. IsNoChartAt offset text ⊎ OpensParAt offset text) d
 HasChartFaultAt _ offset d = ⊥
+
+-- the value is a text of a chart but for numbers that are out of range, of which the first begins at the offset
+abbrev pub HasNumberOutsideAt : ValueForm → ℕ → Data → Type 0
+HasNumberOutsideAt form.Chart offset d = IsTextThat (λ text. IsOutsideAt text offset) d
+HasNumberOutsideAt form.ChartWithoutPar offset d = IsTextThat (λ text. IsOutsideAt text offset) d
+HasNumberOutsideAt _ offset d = ⊥
 
 -- ---- keys and tables
 
@@ -152,7 +160,10 @@ NamesKey word (Some key) = key.now ≡ word
 abbrev pub IsKeyFault : Key → Members → EntryFault → Type 0
 IsKeyFault key table (MissingKey named) = NamesKey key.word named × (key.is_needed ≡ true) × (get_member key.word table ≡ None)
 IsKeyFault key table (WrongKind named) = NamesKey key.word named × HasValue (IsOfWrongKind key.form) key.word table
+IsKeyFault key table (NoNeed number) = HasValue (HasNeedThat IsNoNeed key.form number) key.word table
+IsKeyFault key table (NeedOutOfLimit number) = HasValue (HasNeedThat IsNeedOutOfLimits key.form number) key.word table
 IsKeyFault key table (OutOfLimit named) = NamesKey key.word named × HasValue (IsOutOfLimits key.form table) key.word table
+IsKeyFault key table (NumberOutOfLimit offset) = HasValue (HasNumberOutsideAt key.form offset) key.word table
 IsKeyFault key table (Chart offset) = HasValue (HasChartFaultAt key.form offset) key.word table
 IsKeyFault key table UnknownKey = ⊥
 IsKeyFault key table Undeclared = ⊥

@@ -40,7 +40,9 @@ fn read_chart_at(alloc: Global, table: &Table, spot: Spot) -> Result<ReadChart, 
         Err(ChartFault::NotAChart(offset)) => {
             Err(TableFault::Entry(spot, EntryFault::Chart(offset)))
         }
-        Err(ChartFault::OutOfRange(_)) => Err(TableFault::Entry(spot, EntryFault::OutOfLimit(key))),
+        Err(ChartFault::OutOfRange(offset)) => {
+            Err(TableFault::Entry(spot, EntryFault::NumberOutOfLimit(offset)))
+        }
         Err(ChartFault::Memory) => Err(TableFault::Memory),
     }
 }

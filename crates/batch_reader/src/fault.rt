@@ -103,6 +103,9 @@ pub enum EntryFault {
     /// the table isn't there as a table.
     #[error("a value is of the wrong kind, or is no name")]
     WrongKind(Option<&'static str>),
+    /// The need of the table with this number, from 0, is none, and each before it is right.
+    #[error("need {0} is none")]
+    NoNeed(usize),
     /// The table has a key that tables of its kind don't have, as a unit procedure's `unit` beside `role`.
     #[error("a key is unknown here")]
     UnknownKey,
@@ -116,6 +119,12 @@ pub enum EntryFault {
     /// the nodes of the procedure or the bytes of the document are too many, or the tables too few.
     #[error("a number, a length or a count is out of its limits")]
     OutOfLimit(Option<&'static str>),
+    /// The need of the table with this number, from 0, is of no units or of too many, and each before it is right.
+    #[error("the units of need {0} are out of their limits")]
+    NeedOutOfLimit(usize),
+    /// A number of the chart's text is out of its limits: the byte, from 0, at which the first of these begins.
+    #[error("the number at byte {0} of the chart is out of its limits")]
+    NumberOutOfLimit(usize),
     /// The chart's text is no chart, or has a `par` where none may stand: the byte, from 0, at which this shows.
     #[error("no chart, from byte {0} on")]
     Chart(usize),

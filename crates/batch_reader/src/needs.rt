@@ -1,5 +1,5 @@
 //! The needs of acts: each a resource, and how many units of its capacity.
-ghost use Rattle.std.specs.Prelude.{◌≡◌, ◌≢◌, ℕ, List, Some, true, position, IfOk, IfErr};
+ghost use Rattle.std.specs.Prelude.{◌≡◌, ◌≢◌, ℕ, List, true, position, IfOk, IfErr};
 ghost use Rattle.toml.specs.View.{view, items_view, table_view};
 ghost use Rattle.batch_recipe.specs.Needs.{have_units};
 ghost use Rattle.batch_recipe.specs.declared.need.Need.{Need};
@@ -41,75 +41,70 @@ pub(crate) fn few_needs_at(
     if values.len() > most {
         return Err(TableFault::Entry(spot, EntryFault::OutOfLimit(Some(key))));
     }
-    needs_of(alloc, values, key, spot)
+    needs_of(alloc, values, spot)
 }
 
 /// The needs that some values are, in order.
 #[tactic(auto, using(crate::proofs::OneEntry::needs_have_units))]
-fn needs_of(
-    alloc: Global,
-    values: &[Value],
-    key: &'static str,
-    spot: Spot,
-) -> Result<Vec<Need>, TableFault>
+fn needs_of(alloc: Global, values: &[Value], spot: Spot) -> Result<Vec<Need>, TableFault>
     ensures ok { IfOk result (λ needs. AllItems IsNeedItem (items_view values.now) needs.items) }
     ensures units { IfOk result (λ needs. have_units needs.items ≡ true) }
     ensures refused { IfErr result (λ fault. fault ≢ TableFault.Memory
         → (needs : List Need) → ¬ (AllItems IsNeedItem (items_view values.now) needs)) }
-    ensures told { IfErr result (TellsAt spot (IsNeedsFault key.now (items_view values.now))) }
+    ensures told { IfErr result (TellsAt spot (IsNeedsFault (items_view values.now))) }
 {
     let mut needs = Vec::with_capacity(alloc, values.len())?;
     for value in values {
-        let need = need_of(alloc, value, key, spot)?;
+        let need = need_of(alloc, value, needs.len(), spot)?;
         needs.push(need)?;
     }
     Ok(needs)
 }
 
-/// The need that a value is.
-fn need_of(alloc: Global, value: &Value, key: &'static str, spot: Spot) -> Result<Need, TableFault>
+/// The need with this number that a value is.
+fn need_of(alloc: Global, value: &Value, number: usize, spot: Spot) -> Result<Need, TableFault>
     ensures ok { IfOk result (λ need. IsNeedItem (view value.now) need) }
     ensures refused { IfErr result (λ fault. fault ≢ TableFault.Memory
         → (need : Need) → ¬ (IsNeedItem (view value.now) need)) }
-    ensures told { IfErr result (TellsAt spot (IsNeedFault key.now (view value.now))) }
+    ensures told { IfErr result (TellsAt spot (IsNeedFault number (view value.now))) }
 {
     let Some(text) = value.as_str() else {
-        return Err(TableFault::Entry(spot, EntryFault::WrongKind(Some(key))));
+        return Err(TableFault::Entry(spot, EntryFault::NoNeed(number)));
     };
-    read_need(alloc, text.as_bytes(), key, spot)
+    read_need(alloc, text.as_bytes(), number, spot)
 }
 
 /// The need that a text is: a resource, of which it is one unit, or so many after a star.
 #[tactic(auto, using(crate::proofs::NeedCuts::name_is_need))]
-fn read_need(alloc: Global, text: &[u8], key: &'static str, spot: Spot) -> Result<Need, TableFault>
+fn read_need(alloc: Global, text: &[u8], number: usize, spot: Spot) -> Result<Need, TableFault>
     // claim: need read
     ensures ok { IfOk result (λ need. IsNeedText text.now need) }
     // claim: no need
     ensures refused { IfErr result (λ fault. fault ≢ TableFault.Memory → (need : Need) → ¬ (IsNeedText text.now need)) }
-    ensures told { IfErr result (TellsAt spot (IsNeedTextFault key.now text.now)) }
+    ensures told { IfErr result (TellsAt spot (IsNeedTextFault number text.now)) }
 {
     match Name::read(alloc, text) {
         // Most needs are of one unit, and no star stands in a name.
         Ok(resource) => Ok(Need { resource, units: 1 }),
         Err(TextFault::Memory) => Err(TableFault::Memory),
-        Err(_) => read_parts(alloc, text, key, spot),
+        Err(_) => read_parts(alloc, text, number, spot),
     }
 }
 
 /// The need that a text is, by its parts: the resource before the first star, and the units behind it.
-fn read_parts(alloc: Global, text: &[u8], key: &'static str, spot: Spot) -> Result<Need, TableFault>
+fn read_parts(alloc: Global, text: &[u8], number: usize, spot: Spot) -> Result<Need, TableFault>
     ensures ok { IfOk result (λ need. IsNeedText text.now need) }
     ensures refused { IfErr result (λ fault. fault ≢ TableFault.Memory → (need : Need) → ¬ (IsNeedText text.now need)) }
-    ensures told { IfErr result (TellsAt spot (IsNeedTextFault key.now text.now)) }
+    ensures told { IfErr result (TellsAt spot (IsNeedTextFault number text.now)) }
 {
     match first_star(text) {
         None => {
-            let resource = read_resource(alloc, text, key, spot)?;
+            let resource = read_resource(alloc, text, number, spot)?;
             Ok(Need { resource, units: 1 })
         }
         Some(star) => {
-            let resource = read_resource(alloc, &text[..star], key, spot)?;
-            let units = read_units(&text[star + 1..], key, spot)?;
+            let resource = read_resource(alloc, &text[..star], number, spot)?;
+            let units = read_units(&text[star + 1..], number, spot)?;
             Ok(Need { resource, units })
         }
     }
@@ -123,36 +118,31 @@ fn first_star(text: &[u8]) -> Option<usize>
 }
 
 /// The resource that a text names.
-fn read_resource(
-    alloc: Global,
-    text: &[u8],
-    key: &'static str,
-    spot: Spot,
-) -> Result<Name, TableFault>
+fn read_resource(alloc: Global, text: &[u8], number: usize, spot: Spot) -> Result<Name, TableFault>
     ensures ok { IfOk result (λ name. IsName text.now × (name ≡ text.now)) }
     ensures refused { IfErr result (λ fault. fault ≢ TableFault.Memory → ¬ (IsName text.now)) }
-    ensures told { IfErr result (IsToldAs spot (EntryFault.WrongKind (Some key.entry))) }
+    ensures told { IfErr result (IsToldAs spot (EntryFault.NoNeed number)) }
 {
     match Name::read(alloc, text) {
         Ok(name) => Ok(name),
         Err(TextFault::Memory) => Err(TableFault::Memory),
-        Err(_) => Err(TableFault::Entry(spot, EntryFault::WrongKind(Some(key)))),
+        Err(_) => Err(TableFault::Entry(spot, EntryFault::NoNeed(number))),
     }
 }
 
 /// The number of units that a text is. Another form is of a wrong kind, a number that is too small or too great out of limit.
-fn read_units(text: &[u8], key: &'static str, spot: Spot) -> Result<u32, TableFault>
+fn read_units(text: &[u8], number: usize, spot: Spot) -> Result<u32, TableFault>
     ensures ok { IfOk result (λ units. IsUnits text.now units) }
     ensures refused { IfErr result (λ fault. (units : ℕ) → ¬ (IsUnits text.now units)) }
-    ensures told { IfErr result (TellsAt spot (IsUnitsFault key.now text.now)) }
+    ensures told { IfErr result (TellsAt spot (IsUnitsFault number text.now)) }
 {
     match read_number(text, u64::from(MAX_NEED_UNITS)) {
-        Ok(0) => Err(TableFault::Entry(spot, EntryFault::OutOfLimit(Some(key)))),
+        Ok(0) => Err(TableFault::Entry(spot, EntryFault::NeedOutOfLimit(number))),
         Ok(units) => Ok(units as u32),
         Err(TextFault::OutOfRange) => Err(TableFault::Entry(
             spot,
-            EntryFault::OutOfLimit(Some(key)),
+            EntryFault::NeedOutOfLimit(number),
         )),
-        Err(_) => Err(TableFault::Entry(spot, EntryFault::WrongKind(Some(key)))),
+        Err(_) => Err(TableFault::Entry(spot, EntryFault::NoNeed(number))),
     }
 }

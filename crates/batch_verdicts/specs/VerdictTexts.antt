@@ -11,7 +11,7 @@ use Rattle.batch_reader.specs.Words.{spot_text}
 use Rattle.batch_reader.specs.declared.fault.DocFault.{DocFault}
 use Rattle.batch_reader.specs.declared.fault.DocFault.TheVariants as document
 use Rattle.batch_reader.specs.declared.fault.EntryFault.{EntryFault}
-use Rattle.batch_reader.specs.declared.fault.EntryFault.TheVariants.{MissingKey, WrongKind, UnknownKey, Undeclared, Duplicate, OutOfLimit, Chart}
+use Rattle.batch_reader.specs.declared.fault.EntryFault.TheVariants.{MissingKey, WrongKind, NoNeed, UnknownKey, Undeclared, Duplicate, OutOfLimit, NeedOutOfLimit, NumberOutOfLimit, Chart}
 use Rattle.batch_wording.specs.Shown.{shown}
 use Rattle.batch_verify.specs.CertificateText.{Rank}
 use Rattle.batch_verify.specs.declared.certificate.CertFault.{CertFault}
@@ -32,10 +32,13 @@ refused words = line_text (codes "refused" ∷ words)
 abbrev pub code_of : EntryFault → List ℕ
 code_of (MissingKey key) = codes "D2"
 code_of (WrongKind key) = codes "D3"
+code_of (NoNeed number) = codes "D3"
 code_of UnknownKey = codes "D4"
 code_of Undeclared = codes "D5"
 code_of Duplicate = codes "D6"
 code_of (OutOfLimit key) = codes "D7"
+code_of (NeedOutOfLimit number) = codes "D7"
+code_of (NumberOutOfLimit offset) = codes "D7"
 code_of (Chart offset) = codes "D8"
 
 -- the place of the fault in a chart

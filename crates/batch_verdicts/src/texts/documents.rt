@@ -41,11 +41,13 @@ fn code_of(fault: EntryFault) -> &'static str
 {
     match fault {
         EntryFault::MissingKey(_) => "D2",
-        EntryFault::WrongKind(_) => "D3",
+        EntryFault::WrongKind(_) | EntryFault::NoNeed(_) => "D3",
         EntryFault::UnknownKey => "D4",
         EntryFault::Undeclared => "D5",
         EntryFault::Duplicate => "D6",
-        EntryFault::OutOfLimit(_) => "D7",
+        EntryFault::OutOfLimit(_)
+        | EntryFault::NeedOutOfLimit(_)
+        | EntryFault::NumberOutOfLimit(_) => "D7",
         EntryFault::Chart(_) => "D8",
     }
 }

@@ -1,4 +1,4 @@
-use Rattle.std.proofs.Common.{get_or, refl}
+use Rattle.std.proofs.Common.{◌∙◌, get_or, refl}
 use Rattle.std.proofs.lemmas.Result.{err_from_is_err_and}
 use Rattle.toml.specs.View.{view}
 use Rattle.batch_reader.{proofs.Items.AllItems_refused, proofs.Items.AllItems-turn, specs.Entries.IsNeedItem, proofs.NeedFaults.list_of_item, proofs.NeedFaults.tells_at}
@@ -22,7 +22,7 @@ loop-value-preserved c =
 pub returns-in_err-need-clause-told : goal.returns-in_err-need-clause-told
 returns-in_err-need-clause-told c =
     let p = err_from_is_err_and c.from_residual-in_err-need.result c.from_residual-in_err-need.ensures.1 in
-    rw (p.1, p.2) (tells_at _ _ (list_of_item c.args.values.now c.loop-value.value-index c.value-item.result c.value-item.result c.value-item.is c.loop-value-test.true c.args.key.now) _ _ c.in_err-need.ensures.told)
+    rw (p.1, p.2) (tells_at _ _ (list_of_item c.args.values.now c.loop-value.needs.items c.loop-value.value-index c.value-item.result c.value-item.result c.len.result c.value-item.is c.loop-value-test.true c.loop-value.invariant (c.len.ensures ∙ c.loop-value.needs.ok.0)) _ _ c.in_err-need.ensures.told)
 
 pub returns-in_err-push-clause-refused : goal.returns-in_err-push-clause-refused
 returns-in_err-push-clause-refused c =
