@@ -1,6 +1,5 @@
 use Rattle.std.proofs.Common.{◌-◌}
-use Rattle.batch_reader.specs.ChartView.{GoesOn}
-use Rattle.batch_reader.specs.declared.lexeme.Lexeme.TheVariants.{Letters}
+use Rattle.batch_reader.specs.{ChartView.GoesOn, declared.lexeme.Lexeme.TheVariants.Letters}
 use Rattle.batch_reader.proofs.chart_reading.past_letters.Given as goal
 
 abbrev pub invariant-loop-at : goal.invariant-loop-at
