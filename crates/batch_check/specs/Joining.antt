@@ -1,5 +1,6 @@
 -- private: edges that join the needs of a path to one more.
-use Rattle.std.specs.Prelude.{◌≡◌, ℕ, ◌<◌, List, [], ◌∷◌, ◌++◌, Option, Some, None, ◌⊎◌, IsTrue, option_map, unwrap_or}
+use Rattle.std.specs.Prelude.{◌≡◌, ℕ, ◌<◌, List, [], ◌∷◌, ◌++◌, Option, Some, None, ◌⊎◌, IsTrue, option_map, unwrap_or, Box}
+use Rattle.std.specs.Global.{Global}
 use Rattle.std.specs.List.{Contains}
 use Rattle.batch_check.specs.declared.asked.Asked.{Asked}
 use Rattle.batch_check.specs.declared.edge.Edge.{Edge}
@@ -16,9 +17,9 @@ pub record Grows (old new : EdgeSet) : Type 0 where
   pub fresh : (edge : Edge) → Contains new.edges.items edge → Contains old.edges.items edge ⊎ ¬ (IsTrue (has_pair old.edges.items edge.earlier edge.later))
 
 -- the needs that are kept, as a list
-abbrev pub items_in : Option Asked → Option (List (Option ℕ))
+abbrev pub items_in : Option (Box Asked Global) → Option (List (Option ℕ))
 items_in None = None
-items_in (Some asked) = Some asked.needs.items
+items_in (Some asked) = Some asked.value.needs.items
 
 -- those from which edges lead
 abbrev pub needs_in : Option (List (Option ℕ)) → List (Option ℕ)

@@ -23,7 +23,7 @@ pub(crate) fn collect(
     ensures { IfOk result (λ set. IsCollected site.now (kept_at_top reach) number set.edges.items) }
 {
     let mut edges = EdgeSet::new(alloc, site.count_with_roles())?;
-    let top = Path::top(alloc, number, reach);
+    let top = Path::top(alloc, number, reach)?;
     // The path to each node so far, by number.
     let mut paths = Vec::with_capacity(alloc, site.recipe.outline.entries.len())?;
     // For each phase act, by number, whether there are edges between its own needs.

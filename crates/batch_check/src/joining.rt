@@ -73,10 +73,10 @@ fn join_asked(
 pub(crate) fn join_and_push(
     recipe: u16,
     node: u16,
-    asked: Option<Asked>,
+    asked: Option<Box<Asked>>,
     number: Option<u16>,
     edges: &mut EdgeSet,
-) -> Result<Option<Asked>, AllocError>
+) -> Result<Option<Box<Asked>>, AllocError>
     requires asked { AreBelow edges.old.count (needs_in (items_in asked)) }
     requires number { ForSome number (λ k. k < edges.old.count) }
     ensures { IfOk result (λ kept. IsKept recipe node (items_in asked) number edges.old edges.new (items_in kept)) }

@@ -29,34 +29,34 @@ pub(crate) struct Path {
     pub(crate) recipe: u16,
     /// The number of the resource that is asked for last.
     pub(crate) last: Option<u16>,
-    /// All needs, if edges are to lead from each of them.
-    pub(crate) asked: Option<Asked>,
+    /// All needs, if edges are to lead from each of them. In a box, as mostly there are none.
+    pub(crate) asked: Option<Box<Asked>>,
 }
 
 impl Path {
     /// The path above the nodes of the recipe with this number.
-    pub(crate) fn top(alloc: Global, recipe: u16, reach: Reach) -> Path
-        ensures recipe { result.recipe ≡ recipe }
-        ensures last { result.last ≡ None }
-        ensures kept { kept_by result ≡ kept_at_top reach }
+    pub(crate) fn top(alloc: Global, recipe: u16, reach: Reach) -> Result<Path, AllocError>
+        ensures recipe { IfOk result (λ path. path.recipe ≡ recipe) }
+        ensures last { IfOk result (λ path. path.last ≡ None) }
+        ensures kept { IfOk result (λ path. kept_by path ≡ kept_at_top reach) }
     {
         let asked = match reach {
             Reach::Next => None,
-            Reach::Whole => Some(Asked::new(alloc)),
+            Reach::Whole => Some(Box::new(alloc, Asked::new(alloc))?),
         };
-        Path {
+        Ok(Path {
             recipe,
             last: None,
             asked,
-        }
+        })
     }
 
-    pub(crate) fn copied(&self) -> Result<Path, AllocError>
+    pub(crate) fn copied(&self, alloc: Global) -> Result<Path, AllocError>
         ensures { IfOk result (IsCopy self.now) }
     {
         let asked = match &self.asked {
             None => None,
-            Some(asked) => Some(asked.copied()?),
+            Some(asked) => Some(Box::new(alloc, asked.copied()?)?),
         };
         Ok(Path {
             recipe: self.recipe,
@@ -84,6 +84,7 @@ fn ask(need: Option<u16>, path: Path, node: u16, edges: &mut EdgeSet) -> Result<
 
 /// The path after these needs of the act at the node, in their order. Adds the edges to them.
 fn ask_each(
+    alloc: Global,
     needs: &[Option<u16>],
     path: &Path,
     node: u16,
@@ -101,7 +102,7 @@ fn ask_each(
             asked: None,
         });
     }
-    let mut at = path.copied()?;
+    let mut at = path.copied(alloc)?;
     for need in needs {
         at = ask(*need, at, node, edges)?;
     }
@@ -126,7 +127,7 @@ pub(crate) fn ask_act(
 {
     if !joined || path.asked.is_some() {
         let numbers = site.numbers_of(alloc, needs)?;
-        return ask_each(&numbers, path, node, edges);
+        return ask_each(alloc, &numbers, path, node, edges);
     }
     let last = ask_again(site, needs, path.recipe, path.last, node, edges)?;
     Ok(Path {

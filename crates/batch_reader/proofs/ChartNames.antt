@@ -1,8 +1,14 @@
 -- The names that a chart uses, branch by branch.
-use Rattle.std.proofs.Common.{arith, ◌≡◌, ℕ, ◌-◌, nat_le, nat_lt, Bool, true, ◌&&◌, List, [], ◌∷◌, ◌++◌, map, refl, sym, ap, ◌∙◌}
+use Rattle.std.proofs.Common.{arith, ◌≡◌, ℕ, zero, suc, Some, slice_get, ◌-◌, nat_le, nat_lt, Bool, true, ◌&&◌, List, [], ◌∷◌, ◌++◌, map, refl, sym, ap, ◌∙◌}
 use Rattle.std.{proofs.lemmas.List.Folds.list_all-append, specs.List.list_all}
 use Rattle.batch_reader.{specs.ChartForm.labels_of_chart, specs.ChartForm.labels_of_all, specs.ChartForm.labels_of_chart_cases, specs.ChartForm.names_compared, specs.ChartForm.values_of_chart, specs.ChartForm.values_of_all, specs.ChartForm.values_of_cases, specs.ChartForm.IsFormed, specs.Naming.is_declared, proofs.Conjunctions.both_true, proofs.Conjunctions.and_true, proofs.Conjunctions.same_test, proofs.Conjunctions.cross, proofs.Conjunctions.cross_five, proofs.Conjunctions.first_of_three}
-use Rattle.batch_recipe.specs.{Conditions.Name, Diagram.Diagram, Diagram.label, Diagram.skip, Diagram.seq, Diagram.par, Diagram.sel, Diagram.loop, Diagram.Diagrams, Diagram.none, Diagram.more, Diagram.Cases, Diagram.otherwise, Diagram.when, Diagram.diagram_of, Diagram.diagrams_of, Diagram.cases_of, WellFormed.is_among, WellFormed.is_condition, WellFormed.is_chart, WellFormed.are_charts, WellFormed.are_cases, declared.chart.Chart.Chart, declared.condition.Condition.Condition, declared.condition.Term.Term, declared.condition.Term.TheVariants.Named, declared.condition.Term.TheVariants.Number, declared.scaling.TheConstants.MAX_VALUE}
+use Rattle.batch_recipe.specs.{Conditions.Name, Conditions.same_name, Diagram.Diagram, Diagram.label, Diagram.skip, Diagram.seq, Diagram.par, Diagram.sel, Diagram.loop, Diagram.Diagrams, Diagram.none, Diagram.more, Diagram.Cases, Diagram.otherwise, Diagram.when, Diagram.diagram_of, Diagram.diagrams_of, Diagram.cases_of, WellFormed.is_among, WellFormed.is_condition, WellFormed.is_chart, WellFormed.are_charts, WellFormed.are_cases, declared.chart.Chart.Chart, declared.condition.Condition.Condition, declared.condition.Term.Term, declared.condition.Term.TheVariants.Named, declared.condition.Term.TheVariants.Number, declared.scaling.TheConstants.MAX_VALUE}
+
+-- the name at the place is among them
+pub is_among_at : (names : List Name) (place : ℕ) (there name : Name) → slice_get names place ≡ Some there → same_name name there ≡ true → is_among names name ≡ true
+is_among_at [] place there name is same = absurd cc
+is_among_at (x ∷ xs) zero there name is same = grind (arith, is, same)
+is_among_at (x ∷ xs) (suc n) there name is same = grind (arith, is_among_at xs n there name is same)
 
 module _ (labels values : List Name) where
   -- the test of one branch of a selection

@@ -1,13 +1,9 @@
 -- From the machine's answers to those of the reader of charts.
-use Rattle.std.proofs.Common.{◌≡◌, ℕ, suc, ◌+◌, ◌<◌, ◌≤◌, List, [], ◌∷◌, ◌++◌, length, get_or, take, drop, Option, Some, None, option_and_then, refl, sym, ap, ◌∙◌, subst, append-nil, arith, length-append, length-take}
-use Rattle.std.proofs.lemmas.List.{take_more, take-append-drop, take_all}
+use Rattle.std.proofs.Common.{◌≡◌, ℕ, true, suc, ◌+◌, ◌<◌, ◌≤◌, List, [], ◌∷◌, ◌++◌, length, get_or, take, drop, Option, Some, None, option_and_then, refl, sym, ap, ◌∙◌, subst, append-nil, arith, length-append, length-take}
+use Rattle.std.{proofs.lemmas.List.take_more, proofs.lemmas.List.take-append-drop, proofs.lemmas.List.take_all, specs.Prelude.slice_range}
+use Rattle.batch_text.specs.{NameText.is_name_byte, declared.name.TheConstants.MAX_NAME_LEN}
 use Rattle.batch_recipe.specs.Diagram.{Diagram}
-use Rattle.batch_reader.{specs.declared.firsts.Firsts.Firsts, specs.ChartGrammar.Offsets, specs.ChartGrammar.IsChart, specs.ChartGrammar.IsWideChart, specs.ChartAnswer.first_of, specs.ChartAnswer.HasFaultAt, specs.ChartAnswer.IsOutsideAt, specs.ChartAnswer.IsRead, specs.ChartMachine.State, specs.ChartMachine.IsGood, specs.ChartMachine.start, specs.ChartMachine.step, specs.ChartMachine.steps, specs.ChartMachine.finish, specs.ChartMachine.first_or, proofs.ChartTokens.runs, proofs.ChartCompleteness.one_chart, proofs.ChartCompleteness.no_chart_begins, proofs.ChartCompleteness.no_chart, proofs.ChartCompleteness.runs-steps, proofs.ChartPrefixes.begins_a_chart, proofs.ChartSoundness.sound, proofs.ChartSoundness.step_good, proofs.ChartForms.has_its_pars}
-
--- the state after the first bytes, of which there are place
-pub record IsAfter (text : List ℕ) (place : ℕ) (st : State) : Type 0 where
-  pub goes : steps 0 (take place text) start ≡ Some st
-  pub good : IsGood st.lexeme
+use Rattle.batch_reader.{specs.declared.firsts.Firsts.Firsts, specs.ChartGrammar.Offsets, specs.ChartGrammar.IsChart, specs.ChartGrammar.IsWideChart, specs.ChartAnswer.first_of, specs.ChartAnswer.HasFaultAt, specs.ChartAnswer.IsOutsideAt, specs.ChartAnswer.IsRead, specs.ChartMachine.State, specs.ChartMachine.Want, specs.ChartMachine.Frame, specs.ChartMachine.letters, specs.ChartMachine.IsAfter, specs.ChartMachine.IsGood, specs.ChartMachine.start, specs.ChartMachine.step, specs.ChartMachine.steps, specs.ChartMachine.finish, specs.ChartMachine.first_or, proofs.ChartTokens.runs, proofs.ChartCompleteness.one_chart, proofs.ChartCompleteness.no_chart_begins, proofs.ChartCompleteness.no_chart, proofs.ChartCompleteness.runs-steps, proofs.ChartPrefixes.begins_a_chart, proofs.ChartSoundness.sound, proofs.ChartSoundness.step_good, proofs.ChartForms.has_its_pars, proofs.ChartTexts.begun_name, proofs.ChartTexts.one_more, proofs.ChartTexts.range_length}
 
 over : (o : Option State) (s t : List ℕ) (place after : ℕ)
     → ((x : State) → steps (place + 1) (s ++ t) x ≡ option_and_then (steps after t) (steps (place + 1) s x))
@@ -31,6 +27,20 @@ after_next text place st next h so_far e = record {
   goes = steps-take text place st h so_far.goes ∙ e;
   good = step_good place (get_or text place 0) st next so_far.good e;
 }
+
+-- a word goes on by the byte at the place
+pub letter_next : (text : List ℕ) (from place : ℕ) (w : Want) (frames : List Frame) (firsts : Firsts) → place < length text → place < from + MAX_NAME_LEN → is_name_byte (get_or text place 0) ≡ true
+    → IsAfter text place (record { lexeme = letters (slice_range text from place); want = w; stack = frames; firsts = firsts })
+    → IsAfter text (place + 1) (record { lexeme = letters (slice_range text from (place + 1)); want = w; stack = frames; firsts = firsts })
+unfolding step
+letter_next text from place w frames firsts h room byte so_far =
+    let word = slice_range text from place in
+    let st : State = record { lexeme = letters word; want = w; stack = frames; firsts = firsts } in
+    let next : State = record { lexeme = letters (slice_range text from (place + 1)); want = w; stack = frames; firsts = firsts } in
+    let begun : from ≤ place = begun_name text from place (omega (arith, h)) so_far.good in
+    let short : length word < MAX_NAME_LEN = omega (arith, range_length text from place (omega (arith, h)), room) in
+    let more : slice_range text from (place + 1) ≡ word ++ get_or text place 0 ∷ [] = one_more text from place begun h in
+    after_next text place st next h so_far (rw more (grind (arith, byte, short)))
 
 pub after_none : (text : List ℕ) → IsAfter text 0 start
 unfolding steps

@@ -43,7 +43,7 @@ number_more bytes b number byte room = record {
 
 -- ---- tokens as ranges of the text
 
-range_length : (text : List ℕ) (start place : ℕ) → place ≤ length text → length (slice_range text start place) ≤ place - start
+pub range_length : (text : List ℕ) (start place : ℕ) → place ≤ length text → length (slice_range text start place) ≤ place - start
 range_length text start place h = omega (arith, length-take (place - start) (drop start text))
 
 pub begun_name : (text : List ℕ) (start place : ℕ) → place ≤ length text → IsName (slice_range text start place) → start ≤ place

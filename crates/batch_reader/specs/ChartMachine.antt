@@ -1,5 +1,5 @@
 -- private: the reader of charts as a machine that takes one byte after another.
-use Rattle.std.specs.Prelude.{ℕ, ◌+◌, ◌-◌, ltb, List, [], ◌∷◌, ◌++◌, length, codes, bytes_eq}
+use Rattle.std.specs.Prelude.{◌≡◌, ℕ, ◌+◌, ◌-◌, ltb, List, [], ◌∷◌, ◌++◌, length, take, codes, bytes_eq}
 use Rattle.std.specs.Prelude.{Bool, true, false, ◌==◌, if◌then◌else◌, Option, Some, None, option_and_then, option_map}
 use Rattle.std.specs.Char.{is_ascii_alphabetic, is_ascii_digit}
 use Rattle.batch_text.specs.NameText.{is_name_byte, IsName}
@@ -313,3 +313,8 @@ finish place st = option_and_then (λ e. result_of e.want e.stack e.firsts) (end
 unfoldable pub steps : ℕ → List ℕ → State → Option State
 steps place [] st = Some st
 steps place (b ∷ s) st = option_and_then (steps (place + 1) s) (step place b st)
+
+-- the state after the first bytes of the text, of which there are place
+pub record IsAfter (text : List ℕ) (place : ℕ) (st : State) : Type 0 where
+  pub goes : steps 0 (take place text) start ≡ Some st
+  pub good : IsGood st.lexeme

@@ -1,9 +1,9 @@
 -- private: the machine's values for those of the reader of charts, without their places in memory.
-use Rattle.std.specs.Prelude.{◌≡◌, ℕ, List, map, reverse, Option, Some, None, Result, Ok, Err, slice_range}
+use Rattle.std.specs.Prelude.{◌≡◌, ◌≤◌, ℕ, List, length, map, reverse, Option, Some, None, Result, Ok, Err, slice_range}
 use Rattle.batch_recipe.specs.declared.condition.Condition.{Condition}
 use Rattle.batch_recipe.specs.declared.chart.Chart.{Chart}
 use Rattle.batch_recipe.specs.Diagram.{Diagram, diagram_of}
-use Rattle.batch_reader.specs.ChartMachine.{State, Frame, in_seq, in_par, in_case, in_else, in_loop, Test, of_sel, of_loop}
+use Rattle.batch_reader.specs.ChartMachine.{State, IsAfter, Frame, in_seq, in_par, in_case, in_else, in_loop, Test, of_sel, of_loop}
 use Rattle.batch_reader.specs.ChartMachine.{Want, a_chart, open_seq, open_par, open_sel, open_loop, a_turns, after_turns}
 use Rattle.batch_reader.specs.ChartMachine.{a_name, an_operator, an_operand, after_condition, after_else, after_chart}
 use Rattle.batch_reader.specs.ChartMachine.{Lexeme, nothing, letters, digits, less, more, slash}
@@ -85,3 +85,11 @@ state_view text place st = record {
 
 abbrev pub found_view : Chart × Firsts → Diagram × Firsts
 found_view p = (diagram_of p.0, p.1)
+
+-- the token goes on from the place up to the next one
+pub record GoesOn (text : List ℕ) (place next : ℕ) (lexeme : TheLexeme) : Type 0 where
+  pub later : place ≤ next
+  pub within : next ≤ length text
+  pub after : (w : Want) (frames : List Frame) (firsts : Firsts)
+      → IsAfter text place (record { lexeme = lexeme_view text place lexeme; want = w; stack = frames; firsts = firsts })
+      → IsAfter text next (record { lexeme = lexeme_view text next lexeme; want = w; stack = frames; firsts = firsts })

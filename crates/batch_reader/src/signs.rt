@@ -2,7 +2,7 @@
 ghost use Rattle.std.specs.Prelude.{◌≡◌, ◌≢◌, ◌∷◌, ◌==◌, List, true, false, Some, MatchResult};
 ghost use Rattle.batch_recipe.specs.declared.condition.Condition.{Condition};
 ghost use Rattle.batch_recipe.specs.Diagram.{Diagram, diagram_of};
-ghost use Rattle.batch_reader.specs.ChartMachine.{Frame as Around, in_case, a_chart, after_chart, after_condition, take_comma, take_sign};
+ghost use Rattle.batch_reader.specs.ChartMachine.{Frame as Around, Test as Tested, in_case, a_chart, after_chart, after_condition, take_comma, take_sign};
 ghost use Rattle.batch_reader.specs.ChartView.{Gives, after_view, frame_view, frames_view, test_view, want_view};
 
 use crate::chart_fault::Stop;
@@ -75,25 +75,26 @@ fn take_comma(want: &mut Want, chart: Chart, stack: &mut Vec<Frame>) -> Result<(
     }
 }
 
-/// Reads the colon or the comma after a condition.
+/// Reads the colon or the comma after a condition. A chart is wanted next.
 fn end_condition(
     test: Test,
     condition: Condition,
     byte: u8,
     stack: &mut Vec<Frame>,
-) -> Result<Want, Stop>
-    ensures { Gives (after_view stack.new.items) result (take_sign (after_condition (test_view test) condition) byte (frames_view stack.old.items)) }
+) -> Result<(), Stop>
+    ensures { Gives (λ _. (a_chart, frames_view stack.new.items)) result (take_sign (after_condition (test_view test) condition) byte (frames_view stack.old.items)) }
 {
     match test {
         Test::Sel(cases) => {
             expect(byte, b':')?;
-            inside(stack, Frame::Case(cases, condition))
+            push(stack, Frame::Case(cases, condition))?;
         }
         Test::Loop(turns) => {
             expect(byte, b',')?;
-            inside(stack, Frame::Loop(turns, condition))
+            push(stack, Frame::Loop(turns, condition))?;
         }
     }
+    Ok(())
 }
 
 /// Reads the comma or the parenthesis after a chart, with a chart already wanted next.
@@ -117,14 +118,15 @@ fn end_chart(
     }
 }
 
-/// Reads a parenthesis, a comma or a colon that follows no chart.
+/// Reads a parenthesis, a comma or a colon that follows neither a chart nor a condition.
 fn take_other_sign(
     alloc: Global,
     want: &mut Want,
     byte: u8,
     stack: &mut Vec<Frame>,
 ) -> Result<(), Stop>
-    requires { (chart : Diagram) → want_view want.old ≢ after_chart chart }
+    requires chart { (chart : Diagram) → want_view want.old ≢ after_chart chart }
+    requires condition { (test : Tested) (condition : Condition) → want_view want.old ≢ after_condition test condition }
     ensures { Gives (λ _. after_view stack.new.items want.new) result (take_sign (want_view want.old) byte (frames_view stack.old.items)) }
 {
     *want = match replace(want, Want::Chart) {
@@ -148,19 +150,19 @@ fn take_other_sign(
             expect(byte, b',')?;
             Want::Name(Test::Loop(turns))
         }
-        Want::AfterCond(test, condition) => end_condition(test, condition, byte, stack)?,
         Want::AfterElse(cases) => {
             expect(byte, b':')?;
             inside(stack, Frame::Else(cases))?
         }
         Want::AfterChart(_) => unreachable!(),
+        Want::AfterCond(_, _) => unreachable!(),
         Want::Chart | Want::Turns | Want::Name(_) | Want::Operator(_, _) | Want::Operand(_, _, _) =>
             { return Err(Stop::NotAChart) }
     };
     Ok(())
 }
 
-/// Reads a parenthesis, a comma or a colon. Most follow a chart, and move nothing but that.
+/// Reads a parenthesis, a comma or a colon. Most follow a chart or a condition, and move nothing but that.
 pub fn take_sign(
     alloc: Global,
     want: &mut Want,
@@ -169,6 +171,12 @@ pub fn take_sign(
 ) -> Result<(), Stop>
     ensures { Gives (λ _. after_view stack.new.items want.new) result (take_sign (want_view want.old) byte (frames_view stack.old.items)) }
 {
+    if matches!(want, Want::AfterCond(_, _)) {
+        return match replace(want, Want::Chart) {
+            Want::AfterCond(test, condition) => end_condition(test, condition, byte, stack),
+            _ => unreachable!(),
+        };
+    }
     if !matches!(want, Want::AfterChart(_)) {
         return take_other_sign(alloc, want, byte, stack);
     }

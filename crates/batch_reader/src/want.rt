@@ -33,6 +33,7 @@ pub enum Want {
 
 impl Want {
     /// Sets the wanted token.
+    #[inline(always)]
     pub fn set(&mut self, next: Want)
         ensures { self.new ≡ next }
     {
@@ -40,6 +41,7 @@ impl Want {
     }
 
     /// Sets the chart that has been read.
+    #[inline(always)]
     pub fn set_chart(&mut self, chart: Chart)
         ensures { self.new ≡ Want.AfterChart chart }
     {

@@ -48,7 +48,8 @@ pub fn push_condition(
     ensures { IfOk result (λ _. conditions.new.items ≡ conditions.old.items ++ condition.now ∷ []) }
 {
     let condition = copy_condition(alloc, condition)?;
-    conditions.push(NodeCondition::new(condition, values))?;
+    let node = NodeCondition::new(condition, values, conditions.last());
+    conditions.push(node)?;
     Ok(())
 }
 

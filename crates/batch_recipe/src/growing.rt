@@ -89,6 +89,7 @@ fn finish(nodes: &mut Vec<Entry>, node: u16)
 
 /// Adds the nodes of an act, which stands under the unit procedure of the seat.
 #[cycle(grow)]
+#[inline(always)]
 pub fn grow_act(
     alloc: Global,
     nodes: &mut Vec<Entry>,
@@ -160,6 +161,17 @@ fn grow(
     }
 }
 
+/// The number of the act that a label may name after these nodes: charts often name acts in the order of their table.
+fn next_number(nodes: &[Entry]) -> usize {
+    match nodes.last() {
+        Some(entry) => match entry.kind {
+            Kind::Act(_, number) => number.wrapping_add(1),
+            _ => 0,
+        },
+        None => 0,
+    }
+}
+
 /// Adds the nodes of the act that the label names. If there is none, it adds a node without nodes below it.
 #[cycle(grow)]
 fn grow_label(
@@ -176,7 +188,7 @@ fn grow_label(
 {
     match seat.level {
         None => grow_bare(nodes, seat.parent, seat.child),
-        Some(table) => match labels.number_of(table, name) {
+        Some(table) => match labels.number_of(table, name, next_number(nodes)) {
             None => grow_bare(nodes, seat.parent, seat.child),
             Some(number) => match labels.acts.table(table).get(number) {
                 None => grow_bare(nodes, seat.parent, seat.child),

@@ -33,19 +33,32 @@ impl Drop for NodeCondition {
     }
 }
 
-/// The position of the name among those of the recipe's values. A name that isn't there gets 0, which costs a search.
-fn position_of(values: &IndexSet<Name>, name: &Name) -> usize {
-    values.get_index_of(name).unwrap_or(0)
+/// The position of the name among those of the recipe's values, looked for at the guess first. A name that isn't there gets 0, which costs
+/// a search.
+fn position_of(values: &IndexSet<Name>, guess: usize, name: &Name) -> usize {
+    match values.as_slice().get(guess) {
+        Some(guessed) if *guessed == *name => guess,
+        _ => values.get_index_of(name).unwrap_or(0),
+    }
 }
 
 impl NodeCondition {
-    /// The condition, with the positions of its names among those of the recipe's values.
-    pub(crate) fn new(cond: Condition, values: &IndexSet<Name>) -> NodeCondition
+    /// The condition, with the positions of its names among those of the recipe's values. They are looked for where those of the condition
+    /// before are.
+    pub(crate) fn new(
+        cond: Condition,
+        values: &IndexSet<Name>,
+        before: Option<&NodeCondition>,
+    ) -> NodeCondition
         ensures { result ≡ cond }
     {
-        let left = position_of(values, &cond.name);
+        let (first, second) = match before {
+            Some(before) => (before.left, before.right),
+            None => (0, 0),
+        };
+        let left = position_of(values, first, &cond.name);
         let right = match &cond.term {
-            Term::Named(name) => position_of(values, name),
+            Term::Named(name) => position_of(values, second, name),
             Term::Number(_) => 0,
         };
         NodeCondition { cond, left, right }

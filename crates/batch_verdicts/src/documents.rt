@@ -9,10 +9,10 @@ ghost use Rattle.batch_verdicts.specs.Taking.{AreTaken, ClearsBehind};
 
 use crate::judging::{clear_recipes, parse_cell, parse_certificate, parse_recipe};
 use crate::refusal::Halt;
+use crate::sources::Sources;
 use crate::taking::{NoTaker, TextTaker};
 use crate::warnings::warn;
 use batch_cell::Cell;
-use batch_messages::RecipeSource;
 use batch_outline::show_recipes;
 use batch_reader::MAX_DOCUMENT_LEN;
 use batch_recipe::Recipe;
@@ -37,21 +37,22 @@ pub(crate) struct CellDocuments {
     pub(crate) cell: Cell,
     pub(crate) recipes: Vec<Recipe>,
     /// The files and lines of the acts of the recipes.
-    pub(crate) sources: Vec<RecipeSource>,
+    pub(crate) sources: Sources,
 }
 
-/// Reads the documents. The first that can't be read or is refused ends it.
+/// Reads the documents. The first that can't be read or is refused ends it. It keeps the sources of the recipes if they are wanted.
 pub(crate) fn read_each<D: Documents>(
     alloc: Global,
     documents: &D,
     cell: &str,
     recipes: &[String],
+    are_sources_wanted: bool,
 ) -> Result<CellDocuments, Halt>
     ensures read { IfOk result (λ read. AreAllRead (D.gives documents.now) cell.now (map string_bytes recipes.now) read.cell read.recipes.items) }
     ensures halted { IfErr result (HaltsAtDocuments (D.gives documents.now) cell.now (map string_bytes recipes.now)) }
 {
     let cell = read_cell(alloc, documents, cell, &mut NoTaker)?;
-    let mut sources = Vec::new(alloc);
+    let mut sources = Sources::new(alloc, are_sources_wanted);
     let recipes = read_recipes(alloc, documents, recipes, &mut sources, &mut NoTaker)?;
     Ok(CellDocuments {
         cell,
@@ -81,10 +82,10 @@ pub fn verify_documents<D: Documents, E: Write>(
     let (path, paths) = (cell, recipes);
     let cell = read_cell(alloc, documents, path, &mut NoTaker)?;
     let certificate = read_certificate(alloc, documents, certificate)?;
-    let mut sources = Vec::new(alloc);
+    let mut sources = Sources::new(alloc, !quiet);
     let recipes = read_recipes(alloc, documents, paths, &mut sources, &mut NoTaker)?;
     warn(alloc, quiet, path, &cell, paths, &recipes, errors);
-    clear_recipes(alloc, cell, recipes, &sources, &certificate)?;
+    clear_recipes(alloc, cell, recipes, sources.kept(), &certificate)?;
     Ok(String::from_str(alloc, "accepted\n")?)
 }
 
@@ -100,7 +101,7 @@ pub fn show_documents<D: Documents>(
     ensures verdict { IfOk result (λ text. ShowsDocuments (D.gives documents.now) cell.now (map string_bytes recipes.now) (string_bytes text)) }
     ensures halted { IfErr result (HaltsAtDocuments (D.gives documents.now) cell.now (map string_bytes recipes.now)) }
 {
-    let read = read_each(alloc, documents, cell, recipes)?;
+    let read = read_each(alloc, documents, cell, recipes, false)?;
     Ok(show_recipes(alloc, &read.recipes)?)
 }
 
@@ -139,9 +140,9 @@ pub(crate) fn clear_behind<D: Documents, T: TextTaker>(
         → HaltsClearing (D.gives documents.now) path certificate.now (map string_bytes recipes.now) halt) }
 {
     let certificate = read_certificate(alloc, documents, certificate)?;
-    let mut sources = Vec::new(alloc);
+    let mut sources = Sources::new(alloc, true);
     let recipes = read_recipes(alloc, documents, recipes, &mut sources, taker)?;
-    clear_recipes(alloc, cell, recipes, &sources, &certificate)
+    clear_recipes(alloc, cell, recipes, sources.kept(), &certificate)
 }
 
 /// The cell of the document at the path, whose text the taker takes.
@@ -178,7 +179,7 @@ pub(crate) fn read_recipe<D: Documents, T: TextTaker>(
     alloc: Global,
     documents: &D,
     path: &str,
-    sources: &mut Vec<RecipeSource>,
+    sources: &mut Sources,
     taker: &mut T,
 ) -> Result<Recipe, Halt>
     ensures read { IfOk result (λ recipe. (text : List ℕ) × ReadsRecipeText (D.gives documents.now) path.now text recipe
@@ -188,7 +189,7 @@ pub(crate) fn read_recipe<D: Documents, T: TextTaker>(
     let bytes = documents.read(alloc, path, MAX_DOCUMENT_LEN)?;
     let recipe = parse_recipe(alloc, path, &bytes)?;
     taker.take_text(&bytes);
-    sources.push(RecipeSource::of(alloc, path, &bytes)?)?;
+    sources.add(alloc, path, &bytes)?;
     Ok(recipe)
 }
 
@@ -196,7 +197,7 @@ pub(crate) fn read_recipes<D: Documents, T: TextTaker>(
     alloc: Global,
     documents: &D,
     paths: &[String],
-    sources: &mut Vec<RecipeSource>,
+    sources: &mut Sources,
     taker: &mut T,
 ) -> Result<Vec<Recipe>, Halt>
     ensures read { IfOk result (λ recipes. AreTaken T.has_taken (D.gives documents.now) (map string_bytes paths.now) recipes.items taker.old taker.new) }

@@ -13,6 +13,7 @@ use crate::documents::{CellDocuments, Documents, read_cell, read_each, read_reci
 use crate::drawing::draw_recipes;
 use crate::judging::{check_recipes, fault_halt};
 use crate::refusal::{DocumentRefusal, Halt};
+use crate::sources::Sources;
 use crate::taking::NoTaker;
 use crate::texts::fault_text;
 use crate::warnings::warn;
@@ -46,7 +47,7 @@ pub fn check_asked<D: Documents, E: Write>(
         cell.now (map string_bytes recipes.now)) }
 {
     let read = read_asked(alloc, documents, all, cell, recipes, quiet, errors)?;
-    check_recipes(alloc, &read.cell, &read.recipes, &read.sources)
+    check_recipes(alloc, &read.cell, &read.recipes, read.sources.kept())
 }
 
 /// The drawing that `check --dot` makes of the documents at these paths. It ends and warns as [`check_asked`] does, and draws a circle.
@@ -66,7 +67,7 @@ pub fn draw_asked<D: Documents, E: Write>(
         cell.now (map string_bytes recipes.now)) }
 {
     let read = read_asked(alloc, documents, all, cell, recipes, quiet, errors)?;
-    draw_recipes(alloc, &read.cell, &read.recipes, &read.sources)
+    draw_recipes(alloc, &read.cell, &read.recipes, read.sources.kept())
 }
 
 /// Reads the documents, and warns of them. With `all` it reads all of them, and searches for rules that the recipes break.
@@ -85,9 +86,9 @@ fn read_asked<D: Documents, E: Write>(
         cell.now (map string_bytes recipes.now)) }
 {
     let read = if all {
-        read_all(alloc, documents, cell, recipes)?
+        read_all(alloc, documents, cell, recipes, !quiet)?
     } else {
-        read_each(alloc, documents, cell, recipes)?
+        read_each(alloc, documents, cell, recipes, !quiet)?
     };
     warn(
         alloc,
@@ -99,24 +100,26 @@ fn read_asked<D: Documents, E: Write>(
         errors,
     );
     if all {
-        find_broken_rules(alloc, &read.cell, &read.recipes, &read.sources)?;
+        find_broken_rules(alloc, &read.cell, &read.recipes, read.sources.kept())?;
     }
     Ok(read)
 }
 
-/// Reads all documents, and reports their refusals together.
+/// Reads all documents, and reports their refusals together. It keeps the sources of the recipes if they are wanted.
 fn read_all<D: Documents>(
     alloc: Global,
     documents: &D,
     cell: &str,
     recipes: &[String],
+    are_sources_wanted: bool,
 ) -> Result<CellDocuments, Halt>
     ensures read { IfOk result (λ read. AreAllRead (D.gives documents.now) cell.now (map string_bytes recipes.now) read.cell read.recipes.items) }
     ensures halted { IfErr result (HaltsAtAll (D.gives documents.now) cell.now (map string_bytes recipes.now)) }
 {
     let mut refusals = Vec::new(alloc);
     let cell = cell_or_refusal(alloc, documents, cell, &mut refusals)?;
-    let looked = recipes_or_refusals(alloc, documents, recipes, refusals)?;
+    let sources = Sources::new(alloc, are_sources_wanted);
+    let looked = recipes_or_refusals(alloc, documents, recipes, sources, refusals)?;
     let Some(cell) = cell else {
         return Err(Halt::Every(looked.refusals));
     };
@@ -157,7 +160,7 @@ fn cell_or_refusal<D: Documents>(
 struct Looked {
     recipes: Vec<Recipe>,
     /// The files and lines of the acts of the recipes.
-    sources: Vec<RecipeSource>,
+    sources: Sources,
     refusals: Vec<DocumentRefusal>,
 }
 
@@ -166,6 +169,7 @@ fn recipes_or_refusals<D: Documents>(
     alloc: Global,
     documents: &D,
     paths: &[String],
+    sources: Sources,
     refusals: Vec<DocumentRefusal>,
 ) -> Result<Looked, Halt>
     ensures looked { IfOk result (λ looked. LooksOn (D.gives documents.now) (map string_bytes paths.now) refusals.items looked.recipes.items
@@ -174,7 +178,7 @@ fn recipes_or_refusals<D: Documents>(
 {
     let mut looked = Looked {
         recipes: Vec::new(alloc),
-        sources: Vec::new(alloc),
+        sources,
         refusals,
     };
     for path in paths {

@@ -17,6 +17,7 @@ mod refusal;
 mod rings;
 mod running;
 mod saying;
+mod sources;
 mod taking;
 mod texts;
 mod warnings;

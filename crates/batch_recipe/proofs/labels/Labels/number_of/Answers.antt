@@ -8,7 +8,7 @@ returns c =
     let acts = c.args.self.now.acts.now in
     let named = c.args.self.now.named in
     let found = λ (t : LabelTable) (is : c.match-table.names.now.keys ≡ act_names (table_at acts t)) (e : c.args.table ≡ t).
-    c.get_index_of.ensures.index ∙ (number_by_names (table_at acts t) c.match-table.names.now.keys c.args.name.now is ∙ ap (λ l. number_in (table_at acts l) c.args.name.now) (sym e)) in
+    c.index_from.ensures ∙ (number_by_names (table_at acts t) c.match-table.names.now.keys c.args.name.now is ∙ ap (λ l. number_in (table_at acts l) c.args.name.now) (sym e)) in
     elim c.match-table.branch [
       | in-UnitProcedures w ↦ found _ (ap (λ n. n.now.keys) w.names-is ∙ named.unit_procedures) w.in-UnitProcedures.is
       | in-Operations w ↦ found _ (ap (λ n. n.now.keys) w.names-is ∙ named.operations) w.in-Operations.is
