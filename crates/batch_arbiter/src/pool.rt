@@ -68,6 +68,7 @@ impl Pool {
     }
 
     /// The first claim of a list.
+    #[inline(always)]
     pub fn first(&self, list: usize) -> Option<Entry>
         requires { list < length self.now.lists }
         ensures { option_map entry_claim result ≡ slice_get (list_at self.now list) 0 }
@@ -80,6 +81,7 @@ impl Pool {
     }
 
     /// A claim joins the end of a list.
+    #[inline(always)]
     pub fn push(&mut self, list: usize, claim: Entry)
         requires known { list < length self.old.lists }
         requires room { 0 < self.old.room }
@@ -103,6 +105,7 @@ impl Pool {
     }
 
     /// The first claim leaves a list that has one.
+    #[inline(always)]
     pub fn take_first(&mut self, list: usize) -> Entry
         requires known { list < length self.old.lists }
         requires some { 0 < length (list_at self.old list) }
@@ -174,6 +177,7 @@ impl Pool {
     }
 
     /// Removes the first claim of the act from a list, and returns its units. None where the act has none there.
+    #[inline(always)]
     pub fn remove(&mut self, list: usize, batch: u64, node: u16) -> Option<u32>
         requires { list < length self.old.lists }
         ensures some { IfSome result (λ units. IsRemoved self.old list batch node units self.new) }
@@ -188,6 +192,7 @@ impl Pool {
 
     /// Removes the first claim of the act from a list whose first claim is another act's, and returns its units. None where the act has
     /// none there.
+    #[inline(never)]
     fn remove_later(&mut self, list: usize, batch: u64, node: u16) -> Option<u32>
         requires known { list < length self.old.lists }
         requires later { MatchOption (slice_get (list_at self.old list) 0) ⊥ (λ c. is_claim batch node c ≡ false) }

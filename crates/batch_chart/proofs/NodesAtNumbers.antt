@@ -3,8 +3,6 @@ use Rattle.std.proofs.Common.{◌≡◌, ◌<◌, ℕ, zero, suc, ◌+◌, List,
 use Rattle.std.specs.Prelude.{⊤, slice_get, slice_index_or, Option}
 use Rattle.batch_recipe.{specs.Conditions.Name, specs.Expanding.Binding, specs.Needs.resources_needed, specs.Nodes.node_count, specs.Nodes.nodes_within, specs.Nodes.nodes_of_each, specs.Nodes.nodes_of_choices, specs.Nodes.child, specs.Tree.Place, specs.Tree.Step, specs.Tree.Task, specs.Tree.runs, specs.Tree.follows, specs.Tree.Tree, specs.Tree.act, specs.Tree.skip, specs.Tree.seq, specs.Tree.par, specs.Tree.sel, specs.Tree.loop, specs.Tree.Trees, specs.Tree.no_trees, specs.Tree.tree, specs.Tree.Choices, specs.Tree.otherwise, specs.Tree.choice, proofs.NodeOrder.counted_nodes, specs.declared.entry.Entry.Entry, specs.declared.recipe.Recipe.Recipe}
 use Rattle.batch_recipe.specs.Nodes as nodes
-use Rattle.batch_recipe.specs.declared.entry.Kind.TheVariants as entry
-use Rattle.batch_chart.specs.declared.node.Kind.TheVariants as kind
 use Rattle.batch_chart.specs.{Outlined.StandsOn, Outlined.StandsActOn, Outlined.AreStandingOn, Outlined.AreChoicesOn, Outlined.Stands, NodesOf.nodes_of, NodesOf.node_at, Running.IsLaid}
 
 pub get-or : {X : Type 0} (l : List X) (k : ℕ) (d : X) → k < length l → slice_get l k ≡ Some (slice_index_or l k d)

@@ -19,6 +19,7 @@ use batch_signs::Signs;
 
 impl ControlRecipe<'_> {
     /// The `seq` at p goes on after its branch n, which ran and has been finished.
+    #[inline(always)]
     fn go_on_after(&self, stages: &mut [Stage], signs: &mut Signs, p: usize, n: usize) -> bool
         requires standing { HasTree self.now.nodes.now self.now.master.now stages.old p }
         requires fits { length signs.old ≡ length self.now.nodes.now }
@@ -35,6 +36,7 @@ impl ControlRecipe<'_> {
     }
 
     /// The loop at p, of which a turn is over, begins the next turn if another is to follow.
+    #[inline(always)]
     fn go_round(
         &self,
         stages: &mut [Stage],
@@ -63,6 +65,7 @@ impl ControlRecipe<'_> {
     }
 
     /// Goes on at p, the node above n, after n has been finished. Returns whether that has finished p.
+    #[inline(always)]
     fn go_on_at(&self, stages: &mut [Stage], signs: &mut Signs, p: usize, n: usize) -> bool
         requires standing { HasTree self.now.nodes.now self.now.master.now stages.old p }
         requires fits { length signs.old ≡ length self.now.nodes.now }
@@ -92,6 +95,7 @@ impl ControlRecipe<'_> {
     }
 
     /// Goes on above the node, which has been finished, up to the first that isn't finished by that.
+    #[inline(always)]
     pub fn rise(&self, stages: &mut [Stage], signs: &mut Signs, node: usize)
         requires laid { (t : Tree) × IsLaid self.now.nodes.now self.now.master.now t }
         requires fits { length stages.old ≡ length self.now.nodes.now }

@@ -25,6 +25,7 @@ fn clear(stages: &mut [Stage], signs: &mut Signs, first: usize, end: usize)
 }
 
 /// Gives up the descendants of the node, unless the first of them is finished.
+#[inline(always)]
 fn give_up(nodes: &[Entry], stages: &mut [Stage], signs: &mut Signs, n: usize)
     requires within { n < length nodes.now }
     requires fits { length stages.old ≡ length nodes.now }

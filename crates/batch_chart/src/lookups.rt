@@ -10,6 +10,7 @@ use batch_text::Name;
 /// The node of the unit procedure to which the act at the node passes on its need with this number, once it has ended.
 ///
 /// None where the need isn't the unit of a unit procedure that the act reserves, or where that unit procedure doesn't follow the act.
+#[inline(always)]
 pub(crate) fn pass_target(recipe: &Recipe, node: u16, need: u16) -> Option<u16>
     ensures to { PassesTo recipe.now node need result }
     ensures within { IfSome result (λ to. to < length recipe.now.outline.entries.items) }
@@ -27,6 +28,7 @@ pub(crate) fn pass_target(recipe: &Recipe, node: u16, need: u16) -> Option<u16>
 }
 
 /// How many of the act's needs are its own unit: 1 if it has a unit, else 0.
+#[inline(always)]
 fn own_units(act: &Act) -> u16
     ensures { result ≡ unit_count act.now.unit }
 {
@@ -37,6 +39,7 @@ fn own_units(act: &Act) -> u16
 }
 
 /// The name of the phase that the phase step with this number runs.
+#[inline(always)]
 pub(crate) fn phase_name(recipe: &Recipe, step: usize) -> Option<&Name>
     ensures { option_copied result ≡ phase_step_name recipe.now step }
 {

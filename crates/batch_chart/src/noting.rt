@@ -9,6 +9,7 @@ use batch_recipe::Entry;
 use batch_signs::Signs;
 
 /// Sets the stage of the act at the node, and its signs.
+#[inline(always)]
 pub fn set_stage(nodes: &[Entry], stages: &mut [Stage], signs: &mut Signs, n: usize, stage: Stage)
     requires node { n < length nodes.now }
     requires fits { length stages.old ≡ length nodes.now }

@@ -69,6 +69,7 @@ pub fn gives(needs: u16, held: u16) -> bool
     0 < held && held <= needs
 }
 
+#[inline(always)]
 fn flag(shown: bool, sign: u32) -> u32
     ensures { result ≡ flag shown sign }
 {
@@ -103,6 +104,7 @@ pub fn but(state: State) -> u32
 }
 
 /// The signs of a ready act with so many needs, of which it holds so many.
+#[inline(always)]
 fn of_ready(needs: u16, held: u16) -> u32
     ensures { result ≡ ready_signs needs held }
 {
@@ -112,18 +114,21 @@ fn of_ready(needs: u16, held: u16) -> u32
         | flag(0 < held && 0 < needs, HOLDS)
 }
 
+#[inline(always)]
 fn of_asking(needs: u16, held: u16) -> u32
     ensures { result ≡ asking_signs needs held }
 {
     IS_ACT | flag(held < needs, WAITS) | flag(0 < held && 0 < needs, HOLDS)
 }
 
+#[inline(always)]
 fn of_freeing(needs: u16, held: u16) -> u32
     ensures { result ≡ freeing_signs needs held }
 {
     IS_ACT | flag(0 < held && held <= needs, FREES) | flag(0 < held && 0 < needs, HOLDS)
 }
 
+#[inline(always)]
 fn of_live(needs: u16, state: State) -> u32
     ensures { result ≡ live_signs needs state }
 {
@@ -131,6 +136,7 @@ fn of_live(needs: u16, state: State) -> u32
 }
 
 /// The signs of an act with so many needs that follows its chart. Nothing is left of the chart if it is over.
+#[inline(always)]
 pub fn of_open(needs: u16, over: bool) -> u32
     ensures { result ≡ open_signs needs over }
 {
@@ -138,6 +144,7 @@ pub fn of_open(needs: u16, over: bool) -> u32
 }
 
 /// The signs of an act with so many needs at this stage, if it follows no chart.
+#[inline(always)]
 pub fn of_stage(needs: u16, stage: Stage) -> u32
     ensures { result ≡ stage_signs needs stage }
 {
@@ -162,6 +169,7 @@ pub fn readied(signs: u32) -> u32
 }
 
 /// The signs of the states that accept the command.
+#[inline(always)]
 pub fn accepting(command: Command) -> u32
     ensures { result ≡ states_accepting command }
 {

@@ -42,6 +42,7 @@ fn take_over_at(nodes: &[Entry], stages: &mut [Stage], signs: &mut Signs, n: usi
 }
 
 /// Every ready act whose unit is held in advance takes that over.
+#[inline(always)]
 fn take_over(
     nodes: &[Entry],
     recipe: &Recipe,
@@ -71,6 +72,7 @@ fn is_held(held: &VecDeque<Passed>, to: u16) -> bool
 }
 
 /// Holds the need of a pass in advance, unless its node holds one already.
+#[inline(always)]
 pub fn hold(held: &mut VecDeque<Passed>, wanted: Move)
     requires { length held.old.items < deque_capacity held.old }
     ensures items { held.new.items ≡ held_after held.old.items wanted }
@@ -94,6 +96,7 @@ fn is_ready_at(stages: &[Stage], node: u16) -> bool
 }
 
 /// Removes the needs that have been taken over: those held for an act that is ready.
+#[inline(always)]
 pub fn forget(held: &mut VecDeque<Passed>, stages: &[Stage])
     ensures items { held.new.items ≡ still_held stages.now held.old.items }
     ensures capacity { deque_capacity held.new ≡ deque_capacity held.old }
@@ -103,6 +106,7 @@ pub fn forget(held: &mut VecDeque<Passed>, stages: &[Stage])
 
 impl ControlRecipe<'_> {
     /// Makes a move that the stages allow. The acts that it reaches take over the units held for them in advance.
+    #[inline(always)]
     pub fn move_on(
         &self,
         stages: &mut [Stage],
@@ -120,6 +124,7 @@ impl ControlRecipe<'_> {
     }
 
     /// Gives a live phase a report that it accepts. The acts that are reached by it take over the units held for them in advance.
+    #[inline(always)]
     pub fn report_on(
         &self,
         stages: &mut [Stage],

@@ -1,5 +1,5 @@
 -- Marks on batches.
-use Rattle.std.proofs.Common.{◌≡◌, ◌<◌, ◌≤◌, refl, sym, ◌∙◌, ap, subst, ℕ, zero, suc, List, [], ◌∷◌, ◌++◌, Bool, true, false, Option, Some, None, inl, inr, arith, length, map, get_or, nat_eq}
+use Rattle.std.proofs.Common.{◌≡◌, ◌<◌, ◌≤◌, refl, sym, ◌∙◌, ap, subst, ℕ, zero, suc, List, [], ◌∷◌, ◌++◌, Bool, true, false, Option, Some, None, arith, length, map, get_or, nat_eq}
 use Rattle.std.{specs.Prelude.◌+◌, specs.Prelude.nat_le, specs.Prelude.slice_get, specs.Prelude.IfSome, specs.Prelude.option_map, specs.Prelude.position, specs.Prelude.not, specs.Prelude.IsTrue, specs.Option.is_some, proofs.lemmas.Bool.and_parts, proofs.lemmas.List.length-map, proofs.lemmas.Option.slice_get_within, proofs.lemmas.Option.slice_get-map, proofs.lemmas.Option.get_or_from_slice_get}
 use Rattle.batch_recipe.specs.{Conditions.Name, Tree.Step, Tree.Task, Tree.Tree, declared.need.Need.Need}
 use Rattle.batch_cell.specs.LookUps.{capacities_of}
@@ -12,10 +12,9 @@ use Rattle.batch_record_laws.{specs.Telling.IsTold, proofs.PlantByRecord.tells_t
 use Rattle.batch_verify.specs.ClearedSet.{ClearedSet}
 use Rattle.batch_arbiter.{specs.Allocation.next_grant, specs.Allocation.batch_node, specs.Allocation.resource_count, proofs.CellCapacities.length-capacities}
 use Rattle.batch_chart.specs.Seen.{machine_move}
-use Rattle.batch_engine.{specs.declared.batch.Batch.Batch, specs.declared.line.ClaimKind.ClaimKind, specs.declared.line.Line.Line, specs.declared.reply.Reply.Reply, specs.declared.step.Step.TheVariants.Own, specs.declared.step.Step.TheVariants.Grant, specs.Answered.IsAnswered, specs.Kept.IsKept, specs.Marked.HasNoMove, specs.Marked.AreMarked, specs.Marking.touched, specs.Marking.named, specs.Marking.withdraws, specs.Marking.IsServedAt, specs.Marking.IsFirstServed, specs.Marking.IsFirstStep, specs.Marking.IsTouched, specs.Marking.named_by, specs.Marking.withdraws_by, specs.Marking.AreAnswerMarked, specs.Marking.AreMoveMarked, specs.Marks.IsUnmarked, specs.Names.resource_name, specs.Steps.IsNext, specs.Steps.IsStep, specs.Steps.Makes, specs.Steps.MakesNext, specs.Steps.TellsNext, specs.Steps.index_of, specs.Steps.touched_by, specs.Surface.reply_of, specs.View.EngineView, specs.View.setup, specs.View.model_batch, specs.View.line_at, specs.View.names_of, specs.View.resource_number, specs.View.plant_of, specs.View.tree_of, proofs.EngineAfterMove.of-batch, proofs.EngineAfterMove.same-next, proofs.BatchPlaces.chosen-false, proofs.BatchPlaces.later-number, proofs.BatchPlaces.Has-batch_of, proofs.BatchLookups.Has-get, proofs.BatchLookups.batch-runs, proofs.BatchLookups.known-resource, proofs.BatchLookups.serves-first, proofs.BatchLookups.tree-placed, proofs.MovesAcrossPlants.ServesBefore, proofs.MovesAcrossPlants.first_in, proofs.MovesAcrossPlants.lines-alone, proofs.MovesAcrossPlants.serves, proofs.MovesAcrossPlants.settled-none, proofs.MovesAcrossPlants.served-before, proofs.LeastGrant.Granted, proofs.LeastGrant.asks-node, proofs.LeastGrant.served-node, proofs.BatchesAfterEvent.batches-are-few, proofs.BatchesAfterEvent.others-none, proofs.HolderNotes.next-even, proofs.AbsentElements.NonePasses-position, proofs.RoomForAsk.number-at, proofs.BatchByNumber.found-at, proofs.UnitNumbers.name-there, proofs.RecordOfPlant.down, proofs.RecordOfPlant.told, proofs.RecordOfPlant.safe, proofs.RecordOfPlant.standing}
+use Rattle.batch_engine.{specs.declared.batch.Batch.Batch, specs.declared.line.ClaimKind.ClaimKind, specs.declared.line.Line.Line, specs.declared.reply.Reply.Reply, specs.declared.step.Step.TheVariants.Own, specs.declared.step.Step.TheVariants.Grant, specs.Answered.IsAnswered, specs.Kept.IsKept, specs.Marked.HasNoMove, specs.Marked.AreMarked, specs.Marking.touched, specs.Marking.named, specs.Marking.withdraws, specs.Marking.IsServedAt, specs.Marking.IsFirstServed, specs.Marking.IsFirstStep, specs.Marking.IsTouched, specs.Marking.named_by, specs.Marking.withdraws_by, specs.Marking.AreAnswerMarked, specs.Marking.AreMoveMarked, specs.Marking.KeepsMarks, specs.Marks.IsUnmarked, specs.Names.resource_name, specs.Steps.IsNext, specs.Steps.IsStep, specs.Steps.Makes, specs.Steps.MakesNext, specs.Steps.TellsNext, specs.Steps.index_of, specs.Steps.touched_by, specs.Surface.reply_of, specs.View.EngineView, specs.View.setup, specs.View.model_batch, specs.View.line_at, specs.View.names_of, specs.View.resource_number, specs.View.plant_of, specs.View.tree_of, proofs.EngineAfterMove.of-batch, proofs.EngineAfterMove.same-next, proofs.BatchPlaces.chosen-false, proofs.BatchPlaces.later-number, proofs.BatchPlaces.Has-batch_of, proofs.BatchLookups.Has-get, proofs.BatchLookups.batch-runs, proofs.BatchLookups.known-resource, proofs.BatchLookups.serves-first, proofs.BatchLookups.tree-placed, proofs.MovesAcrossPlants.ServesBefore, proofs.MovesAcrossPlants.first_in, proofs.MovesAcrossPlants.lines-alone, proofs.MovesAcrossPlants.serves, proofs.MovesAcrossPlants.settled-none, proofs.MovesAcrossPlants.served-before, proofs.LeastGrant.Granted, proofs.LeastGrant.asks-node, proofs.LeastGrant.served-node, proofs.BatchesAfterEvent.batches-are-few, proofs.BatchesAfterEvent.others-none, proofs.HolderNotes.next-even, proofs.AbsentElements.NonePasses-position, proofs.RoomForAsk.number-at, proofs.BatchByNumber.found-at, proofs.UnitNumbers.name-there, proofs.RecordOfPlant.down, proofs.RecordOfPlant.told, proofs.RecordOfPlant.safe, proofs.RecordOfPlant.standing}
 use Rattle.batch_engine.specs.declared.step.Step as steps
 use Rattle.batch_engine.specs.Surface as Surface
-use Rattle.batch_signs.proofs.Bits.{within-or_past}
 
 -- there are marks enough
 pub few : (v : EngineView) → IsKept v → length v.batches ≤ 4096
@@ -157,15 +156,12 @@ module _ (v w : EngineView) (k : IsKept v) (l : IsKept w) (m : Moves.Move) (next
       }
 
 pub marked-after : (v w : EngineView) → IsKept v → IsKept w → (ws zs : List ℕ) → AreMarked v ws → (s : steps.Step) → IsFirstStep v (Some s) → MakesNext v w
-    → (number : Option ℕ) → IsTouched v number → AreMoveMarked w (index_of s) number zs → ((i : ℕ) → index_of s ≤ i → IsUnmarked zs i → IsUnmarked ws i) → AreMarked w zs
+    → (number : Option ℕ) → IsTouched v number → AreMoveMarked w (index_of s) number zs → KeepsMarks ws zs → AreMarked w zs
 marked-after v w k l ws zs marked s first makes number touch set kept i less unmarked =
     let d = step-move v s first.0 in
     let made : Makes v w d.0 = makes d.0 d.1 in
     let within : i < length v.batches = omega (arith, less, same-length v w k l d.0 d.1 made) in
-    let before : HasNoMove v i = elim (within-or_past i (index_of s)) [
-      | inl q ↦ first.2 i q
-      | inr q ↦ marked i within (kept i q unmarked)
-    ] in
+    let before : HasNoMove v i = marked i within (kept i unmarked) in
     still-none v w k l d.0 d.1 made i before
     (λ b at e. set.own (subst (IsUnmarked zs) (same-index v.cleared v.next_number v.batches i (index_of s) b d.2.0 (standing v k).numbers at d.2.1 (e ∙ d.2.2)) unmarked))
     (λ r e. (let u = touch d.0 r d.1 e in (u.0, u.2, λ h. set.first u.0 u.1 i h unmarked)))

@@ -51,6 +51,7 @@ impl Batches {
     }
 
     /// How many batches there are.
+    #[inline(always)]
     pub(crate) fn len(&self) -> usize
         ensures { result ≡ length self.now.batches }
     {
@@ -58,6 +59,7 @@ impl Batches {
     }
 
     /// The index of the batch that was added with this number.
+    #[inline(always)]
     pub(crate) fn index_of(&self, number: u64) -> Option<usize>
         ensures { result ≡ position (λ n. nat_eq n number) self.now.numbers }
     {
@@ -68,6 +70,7 @@ impl Batches {
     }
 
     /// The index of the batch with this number, if no batch between the first and it was removed: the difference of their numbers.
+    #[inline(always)]
     fn guess(&self, number: u64) -> Option<usize>
         ensures { IfSome result (λ index. Some index ≡ position (λ n. nat_eq n number) self.now.numbers) }
     {
@@ -82,6 +85,7 @@ impl Batches {
     }
 
     /// The index of the batch with this number, by binary search.
+    #[inline(never)]
     fn search(&self, number: u64) -> Option<usize>
         ensures { result ≡ position (λ n. nat_eq n number) self.now.numbers }
     {

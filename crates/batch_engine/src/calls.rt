@@ -58,6 +58,7 @@ impl Engine {
 
     /// Answers an event. While moves are pending every event is refused.
     // claim: events; binding; required outputs; no memory for a create; the set stays
+    #[inline(always)]
     pub fn accept(&mut self, event: &Event) -> Reply
         ensures { IsAnswered self.old (event_of event.now) result self.new }
     {
@@ -94,6 +95,7 @@ impl Engine {
 
     /// Whether no move is possible.
     // claim: settled
+    #[inline(always)]
     pub fn settled(&self) -> bool
         ensures { IsTrue result ↔ (next (setup self.now.cleared) (plant_of self.now) ≡ None) }
     {
@@ -101,6 +103,7 @@ impl Engine {
     }
 
     /// Makes the next move, if one is possible.
+    #[inline(always)]
     pub fn next_move(&mut self) -> Option<Line>
         // claim: next move; no next move
         ensures next { option_map (move_of self.old.cleared) result ≡ next (setup self.old.cleared) (plant_of self.old) }
@@ -109,16 +112,13 @@ impl Engine {
         // claim: the set stays
         ensures cleared { self.new.cleared ≡ self.old.cleared }
     {
-        let Some(step) = self.control.first_step(&self.marks) else {
-            // No marked batch has a move. So none is checked again before something changes.
-            self.marks.clear_all();
+        let Some(step) = self.control.take_step(&mut self.marks) else {
             return None;
         };
-        let line = self.control.line_of(step);
-        note_grant(&mut self.holders, &line);
-        self.control.make_step(step, &line);
+        let line = self.control.make_step(step);
         self.control.recall_invariant();
-        mark_moved(&mut self.marks, &self.control, step.index(), line.touched());
+        note_grant(&mut self.holders, &line);
+        mark_moved(&mut self.marks, &self.control, line.touched());
         Some(line)
     }
 

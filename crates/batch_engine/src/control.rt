@@ -100,6 +100,7 @@ impl Control {
     }
 
     /// Answers an event, while no move is pending, by the batches that hold the units.
+    #[inline(always)]
     pub(crate) fn answer_event(&mut self, event: &Event, holders: &[u64]) -> Reply
         requires settled { next (setup self.old.cleared) (plant_of self.old) ≡ None }
         requires noted { AreHoldingsNoted self.old holders.now }
@@ -118,6 +119,7 @@ impl Control {
     }
 
     /// The batch with this number.
+    #[inline(always)]
     pub(crate) fn find(&self, number: u64) -> Option<&Batch>
         ensures { IsFoundBy self.now number (option_copied result) }
     {

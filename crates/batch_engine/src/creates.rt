@@ -177,6 +177,7 @@ impl Control {
     }
 
     /// Makes a batch of a recipe, or refuses it.
+    #[inline(never)]
     pub(crate) fn create(&mut self, name: &Name, size: u64, pairs: &[(Name, Name)]) -> Reply
         requires { next (setup self.old.cleared) (plant_of self.old) ≡ None }
         ensures { IsAnswered self.old (Events.create name.now size pairs.now) result self.new }

@@ -20,6 +20,7 @@ pub fn no_holders(alloc: Global, cell: &Cell) -> Result<Vec<u64>, AllocError>
 }
 
 /// Notes the batch to which the move of a line grants one unit of a resource.
+#[inline(always)]
 pub fn note_grant(holders: &mut Vec<u64>, line: &Line)
     requires { IfSome (touched_by line.now) (λ resource. resource < length holders.old.items) }
     ensures { holders.new.items ≡ noted_by line.now holders.old.items }

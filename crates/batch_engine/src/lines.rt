@@ -21,6 +21,7 @@ use batch_set::LinkedRecipe;
 use batch_text::Name;
 
 /// The values of these names, each looked for at its position first; the entries after them mean nothing.
+#[inline(always)]
 fn values_of(names: &[Name], positions: [usize; MAX_VALUES], values: &Values) -> [u64; MAX_VALUES]
     requires { length names.now ≤ MAX_VALUES }
     ensures { zip names.now result ≡ handed_values values.now names.now }
@@ -35,6 +36,7 @@ fn values_of(names: &[Name], positions: [usize; MAX_VALUES], values: &Values) ->
 }
 
 /// The positions at which a batch has the values that the phase of an act of this kind is handed, as hints.
+#[inline(always)]
 fn handed_positions(own: &LinkedRecipe, kind: Kind) -> [usize; MAX_VALUES] {
     match kind {
         Kind::Act(LabelTable::Phases, step) => {
@@ -45,6 +47,7 @@ fn handed_positions(own: &LinkedRecipe, kind: Kind) -> [usize; MAX_VALUES] {
 }
 
 /// The values that the phase of a phase step is handed; the entries after them mean nothing.
+#[inline(always)]
 fn handed(
     recipe: &Recipe,
     positions: [usize; MAX_VALUES],
@@ -109,6 +112,7 @@ impl Control {
     }
 
     /// The line of a command to a phase of a batch.
+    #[inline(always)]
     fn send_line(&self, batch: &Batch, node: u16, command: Command) -> Line
         requires { IsNodeAt self.now batch.now node }
         ensures { Tells self.now batch.now (Moves.Send node command) result }
@@ -125,6 +129,7 @@ impl Control {
     }
 
     /// The line of the start of a phase of a batch.
+    #[inline(always)]
     fn start_line(&self, batch: &Batch, node: u16) -> Line
         requires { IsNodeAt self.now batch.now node }
         ensures { Tells self.now batch.now (Moves.Start node) result }
@@ -146,6 +151,7 @@ impl Control {
     }
 
     /// The line of a move of the batch at an index.
+    #[inline(always)]
     fn own_line(&self, index: usize, made: Move) -> Line
         requires { IsOwnStep self.now (IsNext self.now) index made }
         ensures { IsLineAt self.now index made result }
@@ -188,6 +194,7 @@ impl Control {
     }
 
     /// The line of a step.
+    #[inline(always)]
     pub(crate) fn line_of(&self, step: Step) -> Line
         requires { IsNextStep self.now (Some step) }
         ensures next { TellsNext self.now result }

@@ -1,8 +1,7 @@
 //! Marking the batches that may have a move.
-ghost use Rattle.std.specs.Prelude.{◌≡◌, ◌<◌, ◌≤◌, IfSome, Some, length, ℕ};
+ghost use Rattle.std.specs.Prelude.{◌≡◌, ◌<◌, IfSome, Some, ℕ};
 ghost use Rattle.batch_arbiter.specs.Allocation.{resource_count};
-ghost use Rattle.batch_engine.specs.Marks.{mark_at};
-ghost use Rattle.batch_engine.specs.Marking.{AreAnswerMarked, AreMoveMarked, IsFirstMarked, IsFirstServed, IsNumberMarked, IsSet, KeepsMarks, named_by};
+ghost use Rattle.batch_engine.specs.Marking.{AreAnswerMarked, IsFirstMarked, IsFirstServed, IsNumberMarked, IsSet, KeepsMarks, named_by};
 ghost use Rattle.batch_engine.specs.Steps.{touched_by};
 
 use crate::control::Control;
@@ -12,6 +11,7 @@ use crate::reply::Reply;
 use batch_matrix::Command;
 
 /// Marks the batch at an index.
+#[inline(always)]
 fn mark(marks: &mut Marks, index: usize)
     requires { index < 4096 }
     ensures set { IsSet marks.new index }
@@ -21,6 +21,7 @@ fn mark(marks: &mut Marks, index: usize)
 }
 
 /// Marks the batch with this number.
+#[inline(always)]
 fn mark_number(marks: &mut Marks, control: &Control, number: u64)
     ensures set { IsNumberMarked control.now number marks.new }
     ensures kept { KeepsMarks marks.old marks.new }
@@ -32,6 +33,7 @@ fn mark_number(marks: &mut Marks, control: &Control, number: u64)
 }
 
 /// Marks the batch whose act would be served of a resource.
+#[inline(always)]
 fn mark_first(marks: &mut Marks, control: &Control, resource: u16)
     requires { resource < resource_count control.now.allocation }
     ensures set { IsFirstMarked control.now resource marks.new }
@@ -44,6 +46,7 @@ fn mark_first(marks: &mut Marks, control: &Control, resource: u16)
 }
 
 /// Marks each batch whose act would be served of some resource.
+#[inline(never)]
 fn mark_firsts(marks: &mut Marks, control: &Control)
     ensures set { (resource : ℕ) → resource < resource_count control.now.allocation → IsFirstMarked control.now resource marks.new }
     ensures kept { KeepsMarks marks.old marks.new }
@@ -54,6 +57,7 @@ fn mark_firsts(marks: &mut Marks, control: &Control)
 }
 
 /// Marks the batches that an event has given a move.
+#[inline(always)]
 pub fn mark_answered(marks: &mut Marks, control: &Control, reply: Reply)
     ensures { AreAnswerMarked control.now reply marks.new }
 {
@@ -71,17 +75,13 @@ pub fn mark_answered(marks: &mut Marks, control: &Control, reply: Reply)
     }
 }
 
-/// Marks the batches that a move of the batch at an index has given a move, if it gave or took a share of this resource. No
-/// batch before it had one.
-pub fn mark_moved(marks: &mut Marks, control: &Control, index: usize, resource: Option<u16>)
-    requires batch { index < length control.now.batches }
-    requires known { IfSome resource (λ number. number < resource_count control.now.allocation) }
-    ensures set { AreMoveMarked control.now index resource marks.new }
-    ensures kept { (i : ℕ) → index ≤ i → mark_at marks.new i ≡ 0 → mark_at marks.old i ≡ 0 }
+/// Marks the batch that a move has given a move, if it gave or took a share of this resource. The batch that moved is marked.
+#[inline(always)]
+pub fn mark_moved(marks: &mut Marks, control: &Control, resource: Option<u16>)
+    requires { IfSome resource (λ number. number < resource_count control.now.allocation) }
+    ensures first { (number : ℕ) → resource ≡ Some number → IsFirstMarked control.now number marks.new }
+    ensures kept { KeepsMarks marks.old marks.new }
 {
-    control.recall_invariant();
-    marks.clear_below(index);
-    mark(marks, index);
     if let Some(number) = resource {
         mark_first(marks, control, number);
     }
@@ -89,6 +89,7 @@ pub fn mark_moved(marks: &mut Marks, control: &Control, index: usize, resource: 
 
 impl Reply {
     /// The batch that was created, ordered or reported to.
+    #[inline(always)]
     fn batch(&self) -> Option<u64>
         ensures { result ≡ named_by self.now }
     {
@@ -103,6 +104,7 @@ impl Reply {
 
 impl Line {
     /// The resource of which the line's move gives or takes a share.
+    #[inline(always)]
     pub(crate) fn touched(&self) -> Option<u16>
         ensures { result ≡ touched_by self.now }
     {
@@ -119,6 +121,7 @@ impl Line {
 
 impl Control {
     /// The index of the batch whose act would be served of a resource.
+    #[inline(always)]
     fn first_served(&self, resource: u16) -> Option<usize>
         requires { resource < resource_count self.now.allocation }
         ensures { IsFirstServed self.now resource result }

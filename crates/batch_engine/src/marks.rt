@@ -38,6 +38,7 @@ impl Marks {
     }
 
     /// Marks a number.
+    #[inline(always)]
     pub(crate) fn set(&mut self, index: usize)
         requires { index < 4096 }
         ensures { (i : ℕ) → mark_at self.new i ≡ with_one index (mark_at self.old) i }
@@ -48,7 +49,8 @@ impl Marks {
     }
 
     /// Removes the mark of a number.
-    fn clear(&mut self, index: usize)
+    #[inline(always)]
+    pub(crate) fn clear(&mut self, index: usize)
         requires { index < 4096 }
         ensures { (i : ℕ) → mark_at self.new i ≡ with_zero index (mark_at self.old) i }
     {
@@ -60,45 +62,8 @@ impl Marks {
         }
     }
 
-    /// Removes all marks, in as many steps as there are words with one.
-    pub(crate) fn clear_all(&mut self) {
-        let mut from = 0;
-        while from < 64 {
-            let Some(word) = lowest_from(self.summary, from) else {
-                return;
-            };
-            self.clear_word(word);
-            from = word + 1;
-        }
-    }
-
-    /// Removes the marks of 64 numbers.
-    fn clear_word(&mut self, word: usize)
-        requires { word < 64 }
-    {
-        self.words[word] = 0;
-        self.summary = without_bit(self.summary, word);
-    }
-
-    /// Removes the marks below a number, in as many steps as there are of them.
-    pub(crate) fn clear_below(&mut self, index: usize)
-        requires { index ≤ 4096 }
-        ensures { (i : ℕ) → index ≤ i → mark_at self.new i ≡ mark_at self.old i }
-    {
-        let mut from = 0;
-        while from < index {
-            let Some(marked) = self.next(from) else {
-                return;
-            };
-            if marked >= index {
-                return;
-            }
-            self.clear(marked);
-            from = marked + 1;
-        }
-    }
-
     /// The least marked number, from this one on.
+    #[inline(always)]
     pub(crate) fn next(&self, from: usize) -> Option<usize>
         ensures { IsNextMark self.now from result }
     {

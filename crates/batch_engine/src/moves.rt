@@ -1,7 +1,8 @@
 //! Making the next move.
 ghost use Rattle.std.specs.Prelude.{◌≡◌, Some};
 ghost use Rattle.batch_chart.specs.declared.chart_move.Move.TheVariants as Moves;
-ghost use Rattle.batch_engine.specs.Steps.{CanClaim, IsGrantStep, IsLineAt, IsLineOf, IsNext, IsNextStep, IsOfAct, IsOwnStep, MakesNext, claimed_by};
+ghost use Rattle.batch_engine.specs.Steps.{CanClaim, IsGrantStep, IsLineAt, IsLineOf, IsNext, IsNextStep, IsOfAct, IsOwnStep, MakesNext, TellsNext, claimed_by};
+ghost use Rattle.batch_engine.specs.declared.step.Step.TheVariants.{Own};
 
 use crate::control::Control;
 use crate::line::{ClaimKind, Line};
@@ -12,6 +13,7 @@ use batch_matrix::State;
 
 /// An ask joins the queue of its resource, a release gives the act's share back, and a pass hands the share over. `Control::grant` calls
 /// the arbiter for a grant. A line without a resource leaves the arbiter as it is.
+#[inline(always)]
 fn claim(arbiter: &mut Arbiter, line: &Line)
     requires { CanClaim line.now arbiter.old }
     ensures { arbiter.new ≡ claimed_by line.now arbiter.old }
@@ -42,6 +44,7 @@ fn claim(arbiter: &mut Arbiter, line: &Line)
 
 impl Control {
     /// The batch at an index changes its state.
+    #[inline(always)]
     fn change_state(&mut self, index: usize, state: State)
         requires { IsOwnStep self.old (IsNext self.old) index (Moves.State state) }
         ensures { MakesNext self.old self.new }
@@ -51,6 +54,7 @@ impl Control {
     }
 
     /// The batch at an index makes a move of an act, whose line this is.
+    #[inline(always)]
     fn run(&mut self, index: usize, made: Move, line: &Line)
         requires step { IsOwnStep self.old (IsNext self.old) index made }
         requires act { IsOfAct made }
@@ -64,6 +68,7 @@ impl Control {
     }
 
     /// The first act in the queue of a resource is granted it.
+    #[inline(always)]
     fn grant(&mut self, index: usize, node: u16, resource: u16, units: u32)
         requires { IsGrantStep self.old (IsNext self.old) index node resource units }
         ensures { MakesNext self.old self.new }
@@ -75,7 +80,8 @@ impl Control {
     }
 
     /// Makes the move of the batch at an index, whose line this is.
-    fn make_own(&mut self, index: usize, made: Move, line: &Line)
+    #[inline(always)]
+    fn carry_out_own(&mut self, index: usize, made: Move, line: &Line)
         requires step { IsOwnStep self.old (IsNext self.old) index made }
         requires line { IsLineAt self.old index made line.now }
         ensures { MakesNext self.old self.new }
@@ -87,19 +93,84 @@ impl Control {
     }
 
     /// Makes the next step, whose line this is.
-    pub(crate) fn make_step(&mut self, step: Step, line: &Line)
+    #[inline(always)]
+    fn carry_out(&mut self, step: Step, line: &Line)
         requires step { IsNextStep self.old (Some step) }
         requires line { IsLineOf self.old step line.now }
         ensures { MakesNext self.old self.new }
     {
         match step {
-            Step::Own { index, made } => self.make_own(index, made, line),
+            Step::Own { index, made } => self.carry_out_own(index, made, line),
             Step::Grant {
                 index,
                 node,
                 resource,
                 units,
             } => self.grant(index, node, resource, units),
+        }
+    }
+
+    /// Makes the next step, and returns its line.
+    #[inline(always)]
+    fn make(&mut self, step: Step) -> Line
+        requires { IsNextStep self.old (Some step) }
+        ensures told { TellsNext self.old result }
+        ensures made { MakesNext self.old self.new }
+    {
+        let line = self.line_of(step);
+        self.carry_out(step, &line);
+        line
+    }
+
+    /// The same of a move of the batch at an index. Each kind of move has a copy of the code, from which the compiler leaves out the tests of
+    /// the kind.
+    #[inline(always)]
+    fn make_own_by_kind(&mut self, index: usize, made: Move) -> Line
+        requires { IsNextStep self.old (Some (Own index made)) }
+        ensures told { TellsNext self.old result }
+        ensures made { MakesNext self.old self.new }
+    {
+        match made {
+            Move::Send { node, command } => self.make_own(index, Move::Send { node, command }),
+            Move::State(state) => self.make_own(index, Move::State(state)),
+            Move::Release { node, need } => self.make_own(index, Move::Release { node, need }),
+            Move::Pass { node, to, need } => self.make_own(index, Move::Pass { node, to, need }),
+            Move::Begin { node } => self.make_own(index, Move::Begin { node }),
+            Move::Start { node } => self.make_own(index, Move::Start { node }),
+            Move::End { node } => self.make_own(index, Move::End { node }),
+            Move::Ask { node, need } => self.make_own(index, Move::Ask { node, need }),
+        }
+    }
+
+    #[inline(always)]
+    fn make_own(&mut self, index: usize, made: Move) -> Line
+        requires { IsNextStep self.old (Some (Own index made)) }
+        ensures told { TellsNext self.old result }
+        ensures made { MakesNext self.old self.new }
+    {
+        self.make(Step::Own { index, made })
+    }
+
+    /// Makes the next step, and returns its line.
+    #[inline(always)]
+    pub(crate) fn make_step(&mut self, step: Step) -> Line
+        requires { IsNextStep self.old (Some step) }
+        ensures told { TellsNext self.old result }
+        ensures made { MakesNext self.old self.new }
+    {
+        match step {
+            Step::Own { index, made } => self.make_own_by_kind(index, made),
+            Step::Grant {
+                index,
+                node,
+                resource,
+                units,
+            } => self.make(Step::Grant {
+                index,
+                node,
+                resource,
+                units,
+            }),
         }
     }
 }

@@ -23,6 +23,7 @@ const MAX_RESOURCES: usize = MAX_UNITS + MAX_MODULES + MAX_SHARED;
 
 impl Control {
     /// The index of the batch with this number.
+    #[inline(always)]
     pub(crate) fn index_of(&self, number: u64) -> Option<usize>
         ensures { result ≡ position (λ b. nat_eq b.number number) self.now.batches }
     {
@@ -30,6 +31,7 @@ impl Control {
     }
 
     /// The batch at an index takes a command that changes its state alone.
+    #[inline(always)]
     fn enter(&mut self, index: usize, command: Command, state: State, number: u64)
         requires order { IsOrder self.old index command number }
         requires plain { IsPlain command }
@@ -59,6 +61,7 @@ impl Control {
     }
 
     /// The batch at an index is stopped or aborted.
+    #[inline(never)]
     fn stop(&mut self, index: usize, command: Command, state: State, number: u64)
         requires order { IsOrder self.old index command number }
         requires ends { EndsAsks command }
@@ -73,6 +76,7 @@ impl Control {
     }
 
     /// The procedure of the batch at an index is reached anew.
+    #[inline(never)]
     fn reset(&mut self, index: usize, number: u64)
         requires order { IsOrder self.old index Command.Reset number }
         ensures { IsOrdered self.old Command.Reset number self.new }
@@ -85,6 +89,7 @@ impl Control {
     }
 
     /// A batch takes a command.
+    #[inline(always)]
     pub(crate) fn order(&mut self, command: Command, number: u64) -> Reply
         requires { next (setup self.old.cleared) (plant_of self.old) ≡ None }
         ensures { IsAnswered self.old (Events.order command number) result self.new }

@@ -1,10 +1,10 @@
 //! Choosing the next move.
-ghost use Rattle.std.specs.Prelude.{◌≡◌, ◌<◌, ◌≤◌, ◌↔◌, length, slice_get, IsTrue, ℕ};
+ghost use Rattle.std.specs.Prelude.{◌≡◌, ◌<◌, ◌≤◌, ◌↔◌, length, slice_get, IfSome, IsTrue, ℕ};
 ghost use Rattle.batch_arbiter.specs.Allocation.{resource_count};
 ghost use Rattle.batch_model.specs.Moves.{is_stopped};
 ghost use Rattle.batch_engine.specs.Marked.{AreMarked};
-ghost use Rattle.batch_engine.specs.Marking.{IsFirstStep};
-ghost use Rattle.batch_engine.specs.Steps.{AreUnserved, IsBatch, IsBatchStep, IsFirstGrant, IsNeedAt, IsNumberAt, IsServedNode};
+ghost use Rattle.batch_engine.specs.Marking.{IsFirstStep, IsSet};
+ghost use Rattle.batch_engine.specs.Steps.{AreUnserved, IsBatch, IsBatchStep, IsFirstGrant, IsNeedAt, IsNumberAt, IsServedNode, index_of};
 ghost use Rattle.batch_engine.specs.View.{EngineView};
 
 use crate::batch::Batch;
@@ -22,6 +22,7 @@ const FEW_ACTS: u16 = 8;
 const LINES_AN_ACT: u16 = 4;
 
 /// Whether the arbiter would serve this act.
+#[inline(always)]
 fn serves(arbiter: &Arbiter, resource: u16, batch: u64, node: u16) -> bool
     requires { resource < resource_count arbiter.now }
     ensures { IsTrue result ↔ IsServedNode arbiter.now resource batch node }
@@ -56,6 +57,7 @@ fn least_served(arbiter: &Arbiter, resources: u16, batch: u64) -> u16
 }
 
 /// Whether a batch in this state was stopped or aborted, so that it has no move.
+#[inline(always)]
 fn is_stopped(state: State) -> bool
     ensures { result ≡ is_stopped state }
 {
@@ -63,6 +65,7 @@ fn is_stopped(state: State) -> bool
 }
 
 /// The need with this number.
+#[inline(always)]
 fn need_in(needs: &[LinkedNeed], need: u16) -> Option<LinkedNeed>
     ensures { result ≡ slice_get needs.now need }
 {
@@ -70,6 +73,7 @@ fn need_in(needs: &[LinkedNeed], need: u16) -> Option<LinkedNeed>
 }
 
 /// The number of the resource that an act of a batch of the recipe needs, and how many units of it.
+#[inline(always)]
 pub(crate) fn resource_at(
     set: &LinkedSet,
     recipe: &Recipe,
@@ -107,6 +111,7 @@ impl Control {
     }
 
     /// The first act of a batch in a queue that the arbiter would serve: its node, its resource and how many units of it.
+    #[inline(always)]
     fn first_grant(&self, batch: &Batch) -> Option<(u16, u16, u32)>
         requires { IsBatch self.now batch.now }
         ensures { IsFirstGrant self.now batch.now result }
@@ -127,6 +132,7 @@ impl Control {
     }
 
     /// The next move of the batch at an index.
+    #[inline(always)]
     fn batch_step(&self, index: usize) -> Option<Step>
         requires { index < length self.now.batches }
         ensures { IsBatchStep self.now index result }
@@ -148,12 +154,15 @@ impl Control {
         })
     }
 
-    /// The next step: that of the first marked batch that has one.
+    /// The next step: that of the first marked batch that has one. The marks of the batches before it, which have no move, are removed. So
+    /// none of these is checked again before something changes.
     // claim: marked batches
     #[inline(always)]
-    pub(crate) fn first_step(&self, marks: &Marks) -> Option<Step>
-        requires { AreMarked self.now marks.now }
-        ensures { IsFirstStep self.now result }
+    pub(crate) fn take_step(&self, marks: &mut Marks) -> Option<Step>
+        requires { AreMarked self.now marks.old }
+        ensures step { IsFirstStep self.now result }
+        ensures marked { AreMarked self.now marks.new }
+        ensures set { IfSome result (λ step. IsSet marks.new (index_of step)) }
     {
         self.recall_invariant();
         let mut from = 0;
@@ -165,7 +174,30 @@ impl Control {
             if let Some(step) = self.batch_step(index) {
                 return Some(step);
             }
+            marks.clear(index);
             from = index + 1;
+        }
+        None
+    }
+
+    /// The next step: that of the first marked batch that has one.
+    // claim: marked batches
+    #[inline(always)]
+    pub(crate) fn first_step(&self, marks: &Marks) -> Option<Step>
+        requires { AreMarked self.now marks.now }
+        ensures { IsFirstStep self.now result }
+    {
+        self.recall_invariant();
+        let mut from = 0;
+        while let Some(marked) = marks.next(from) {
+            // The removal of batches can leave a mark past the last one.
+            if marked >= self.batches.len() {
+                return None;
+            }
+            if let Some(step) = self.batch_step(marked) {
+                return Some(step);
+            }
+            from = marked + 1;
         }
         None
     }

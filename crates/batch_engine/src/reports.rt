@@ -22,6 +22,7 @@ use batch_recipe::{Recipe, are_outputs, first_left_out, reports_at};
 use batch_text::Name;
 
 /// The state of a batch after a report: a fault takes it to Holding if its state accepts hold.
+#[inline(always)]
 fn state_after(word: Report, state: State) -> State
     ensures { result ≡ batch_state_after word state }
 {
@@ -35,6 +36,7 @@ fn state_after(word: Report, state: State) -> State
 }
 
 /// Whether a phase in this state has to report its outputs with the word: once it is done, unless it is stopping or aborting.
+#[inline(always)]
 fn owes_outputs(word: Report, state: State) -> bool
     ensures { result ≡ (same_report word Report.Done && not (is_stopping state)) }
 {
@@ -43,6 +45,7 @@ fn owes_outputs(word: Report, state: State) -> bool
 
 /// The number, among those that the phase step at a node reports, of the first output that its phase has to report with the word
 /// and leaves out.
+#[inline(always)]
 fn left_out(recipe: &Recipe, node: u16, state: State, report: &PhaseReport) -> Option<usize>
     ensures { result ≡ position (λ name. not (have_output report.now.outputs.items name)) (owed state report.now.word (reports_of (node_of node recipe.now))) }
 {
@@ -54,6 +57,7 @@ fn left_out(recipe: &Recipe, node: u16, state: State, report: &PhaseReport) -> O
 
 impl Control {
     /// The live phase with this name that the batch at an index runs on the unit with this number among the resources.
+    #[inline(always)]
     fn live_in(&self, index: usize, unit: u16, phase: &Name) -> Option<LivePhase>
         requires { index < length self.now.batches }
         ensures { (name : List ℕ) → resource_number self.now.cleared name ≡ Some unit → IsLiveIn self.now index name phase.now result }
@@ -78,6 +82,7 @@ impl Control {
     }
 
     /// The live phase of the unit with this name, in the batch that holds the unit.
+    #[inline(always)]
     fn live(&self, holders: &[u64], unit: &Name, phase: &Name) -> Option<LivePhase>
         requires { AreHoldingsNoted self.now holders.now }
         ensures { IsLivePhase self.now unit.now phase.now result }
@@ -89,6 +94,7 @@ impl Control {
     }
 
     /// Answers a report of a live phase of a unit.
+    #[inline(always)]
     pub(crate) fn report(&mut self, report: &PhaseReport, holders: &[u64]) -> Reply
         requires settled { next (setup self.old.cleared) (plant_of self.old) ≡ None }
         requires noted { AreHoldingsNoted self.old holders.now }

@@ -1,6 +1,4 @@
 //! Steps.
-ghost use Rattle.std.specs.Prelude.{◌≡◌};
-ghost use Rattle.batch_engine.specs.Steps.{index_of};
 
 use batch_chart::Move;
 
@@ -19,15 +17,4 @@ pub enum Step {
         resource: u16,
         units: u32,
     },
-}
-
-impl Step {
-    /// The index of the batch that makes the step.
-    pub(crate) fn index(self) -> usize
-        ensures { result ≡ index_of self }
-    {
-        match self {
-            Step::Own { index, .. } | Step::Grant { index, .. } => index,
-        }
-    }
 }

@@ -1,7 +1,7 @@
 -- Sets of nodes by sign.
-use Rattle.std.proofs.Common.{◌≡◌, ◌<◌, ◌≤◌, ◌+◌, ◌*◌, ◌/◌, ◌%◌, refl, sym, ◌∙◌, ap, ap₂, subst, ℕ, List, length, Bool, true, false, Some, None, inl, inr, ◌⊎◌, arith, nat_eq, bit_and, bit_or, get_or}
-use Rattle.std.{specs.Prelude.◌^◌, specs.Prelude.min, specs.Prelude.max, specs.Prelude.not, specs.Prelude.slice_index, specs.Prelude.slice_set, specs.Int.bit_at, specs.Int.Bits.bit_xor, proofs.lemmas.Bool.cases_lt, proofs.lemmas.List.get_or-set_same, proofs.lemmas.List.get_or-set_other, proofs.lemmas.List.get_or_past, proofs.lemmas.List.length-set, proofs.lemmas.Nat.div-add-mod', proofs.lemmas.Nat.mod_below, proofs.lemmas.Nat.div-mul-add, proofs.lemmas.Nat.mod-mul-add, proofs.lemmas.Nat.Bits.bit_at-lt, proofs.lemmas.Nat.Bits.bit_at-zero, proofs.lemmas.Nat.Bits.bit_at_or, proofs.lemmas.Nat.Bits.bit_at_xor, proofs.lemmas.Nat.Bits.bit_at_above}
-use Rattle.batch_signs.{specs.Bits.with_told, specs.Bits.IsLowestFrom, specs.SignSets.set_of, specs.SignSets.sign_shown, specs.SignSets.bit_of, specs.SignSets.AreSummed, specs.SignSets.AreJoined, specs.SignSets.IsTurnedAt, specs.SignSets.IsChangedAt, specs.SignSets.ShowsNone, specs.SignSets.ShowsSome, specs.SignSets.IsFirstShown, proofs.Bits.nat-same, proofs.Bits.differs, proofs.Bits.no-bits, proofs.Bits.zeros, proofs.Bits.with-one_same, proofs.Bits.with-one_other, proofs.Bits.with-zero_same, proofs.Bits.with-zero_other, proofs.WantedSigns.no-bit}
+use Rattle.std.proofs.Common.{◌≡◌, ◌<◌, ◌≤◌, ◌+◌, ◌*◌, ◌/◌, ◌%◌, refl, sym, ◌∙◌, ap, ap₂, subst, ℕ, List, length, Bool, true, false, Option, Some, None, inl, inr, ◌⊎◌, arith, nat_eq, bit_and, bit_or, get_or, w64}
+use Rattle.std.{specs.Prelude.◌^◌, specs.Prelude.min, specs.Prelude.max, specs.Prelude.not, specs.Prelude.slice_index, specs.Prelude.slice_set, specs.Int.bit_at, specs.Int.Bits.bit_xor, specs.Int.trailing_zeros, proofs.lemmas.Bool.cases_lt, proofs.lemmas.List.get_or-set_same, proofs.lemmas.List.get_or-set_other, proofs.lemmas.List.get_or_past, proofs.lemmas.List.length-set, proofs.lemmas.Nat.div-add-mod', proofs.lemmas.Nat.mod_below, proofs.lemmas.Nat.div-mul-add, proofs.lemmas.Nat.mod-mul-add, proofs.lemmas.Nat.Bits.bit_at-lt, proofs.lemmas.Nat.Bits.bit_at-zero, proofs.lemmas.Nat.and_le_r, proofs.lemmas.Nat.Bits.bit_at-trailing_zeros, proofs.lemmas.Nat.Bits.bit_at_and, proofs.lemmas.Nat.Bits.bit_at_or, proofs.lemmas.Nat.Bits.bit_at_xor, proofs.lemmas.Nat.Bits.bit_at_above}
+use Rattle.batch_signs.{specs.Bits.with_one, specs.Bits.with_told, specs.Bits.IsLowestFrom, specs.SignSets.set_of, specs.SignSets.sign_shown, specs.SignSets.bit_of, specs.SignSets.AreAbsent, specs.SignSets.AreSummed, specs.SignSets.AreJoined, specs.SignSets.IsTurnedAt, specs.SignSets.IsChangedAt, specs.SignSets.ShowsNone, specs.SignSets.ShowsSome, specs.SignSets.IsFirstShown, proofs.Bits.nat-same, proofs.Bits.differs, proofs.Bits.no-bits, proofs.Bits.set-bit, proofs.Bits.zeros, proofs.Bits.with-one_same, proofs.Bits.with-one_other, proofs.Bits.with-zero_same, proofs.Bits.with-zero_other, proofs.WantedSigns.no-bit}
 
 not-one : (x : ℕ) → x ≡ 0 → x ≡ 1 → ⊥
 not-one x e f = absurd (omega (arith, e, f))
@@ -84,16 +84,6 @@ told-some n e = go (nat_eq n 0) refl
     go true f = absurd (not-one (bit_of (not (nat_eq n 0))) (ap (λ z. bit_of (not z)) f) e)
     go false f = Rattle.batch_signs.proofs.Bits.not-zero n (differs n 0 f)
 
-pub told-bit : (x : ℕ) → x < 2 → bit_of (nat_eq x 1) ≡ x
-told-bit x l = go (nat_eq x 1) refl
-  where
-    go : (t : Bool) → nat_eq x 1 ≡ t → bit_of (nat_eq x 1) ≡ x
-    go true f = ap bit_of f ∙ sym (nat-same x 1 f)
-    go false f = ap bit_of f ∙ (elim (cases_lt x 1) [
-      | inl q ↦ omega (arith, q)
-      | inr q ↦ absurd (differs x 1 f (omega (arith, q, l)))
-    ])
-
 same-place : (w s v t : ℕ) → s < 32 → t < 32 → w * 32 + s ≡ v * 32 + t → (w ≡ v) × (s ≡ t)
 same-place w s v t l m e = (omega arith, omega arith)
 
@@ -109,7 +99,7 @@ module _ (words summary : List ℕ) (all word sign set : ℕ) (room : word * 32 
   written-other w s l h = get_or-set_other words (word * 32 + sign) (w * 32 + s) set 0 (λ e. (let both = same-place w s word sign l small e in h both.0 both.1))
 
   module _ (h : AreSummed words summary all) (bits every : ℕ) (bits-are : (k : ℕ) → bit_at bits k ≡ with_told (not (nat_eq set 0)) word (bit_at (slice_index summary sign)) k)
-      (every-are : (k : ℕ) → bit_at every k ≡ with_told (not (nat_eq bits 0)) sign (bit_at all) k) where
+      (every-are : (k : ℕ) → bit_at every k ≡ with_told (not (nat_eq bits 0)) sign (bit_at all) k) (set-fits : set < 2 ^ 64) (bits-fit : bits < 2 ^ 64) where
     summary-same : (s : ℕ) → nat_eq s sign ≡ true → slice_index (slice_set summary sign bits) s ≡ bits
     summary-same s e = ap (slice_index (slice_set summary sign bits)) (nat-same s sign e) ∙ get_or-set_same summary sign bits 0 (omega (arith, small, h.signs))
 
@@ -158,6 +148,30 @@ module _ (words summary : List ℕ) (all word sign set : ℕ) (room : word * 32 
             summary-same s f ∙ told-none bits bit
         go false f = summary-other s f ∙ h.missing s l (sym (every-are s ∙ told-other (not (nat_eq bits 0)) sign s (bit_at all) f) ∙ e)
 
+    present : (s : ℕ) → s < 32 → bit_at every s ≡ 1 → 0 < slice_index (slice_set summary sign bits) s
+    present s l e = go (nat_eq s sign) refl
+      where
+        go : (t : Bool) → nat_eq s sign ≡ t → 0 < slice_index (slice_set summary sign bits) s
+        go true f =
+            let bit : bit_of (not (nat_eq bits 0)) ≡ 1 =
+            sym (every-are s ∙ ap (with_told (not (nat_eq bits 0)) sign (bit_at all)) (nat-same s sign f) ∙ told-same (not (nat_eq bits 0)) sign (bit_at all)) ∙ e in
+            subst (λ z. 0 < z) (sym (summary-same s f)) (told-some bits bit)
+        go false f = subst (λ z. 0 < z) (sym (summary-other s f)) (h.present s l (sym (every-are s ∙ told-other (not (nat_eq bits 0)) sign s (bit_at all) f) ∙ e))
+
+    fit : (k : ℕ) → slice_index written k < 2 ^ 64
+    fit k = go (nat_eq k (word * 32 + sign)) refl
+      where
+        go : (t : Bool) → nat_eq k (word * 32 + sign) ≡ t → slice_index written k < 2 ^ 64
+        go true f = subst (λ z. z < 2 ^ 64) (sym (ap (slice_index written) (nat-same k (word * 32 + sign) f) ∙ get_or-set_same words (word * 32 + sign) set 0 (omega (arith, room, small)))) set-fits
+        go false f = subst (λ z. z < 2 ^ 64) (sym (get_or-set_other words (word * 32 + sign) k set 0 (differs k (word * 32 + sign) f))) (h.fit k)
+
+    fits : (s : ℕ) → slice_index (slice_set summary sign bits) s < 2 ^ 64
+    fits s = go (nat_eq s sign) refl
+      where
+        go : (t : Bool) → nat_eq s sign ≡ t → slice_index (slice_set summary sign bits) s < 2 ^ 64
+        go true f = subst (λ z. z < 2 ^ 64) (sym (summary-same s f)) bits-fit
+        go false f = subst (λ z. z < 2 ^ 64) (sym (summary-other s f)) (h.fits s)
+
     pub summed-written : AreSummed written (slice_set summary sign bits) every
     summed-written = record {
       whole = ap (λ z. z % 32) (length-set words (word * 32 + sign) set) ∙ h.whole;
@@ -166,6 +180,9 @@ module _ (words summary : List ℕ) (all word sign set : ℕ) (room : word * 32 
       none = none;
       some = some;
       missing = missing;
+      present = present;
+      fit = fit;
+      fits = fits;
     }
 
 pub summed-zeros : (count : ℕ) → count % 32 ≡ 0 → count ≤ 2048 → AreSummed (Rattle.std.proofs.Common.replicate count 0) (Rattle.std.proofs.Common.replicate 32 0) 0
@@ -178,9 +195,45 @@ summed-zeros count whole few =
       none = λ w s l e. zeros count (w * 32 + s);
       some = λ w s l e. absurd (not-one (bit_at (get_or {A = ℕ} (Rattle.std.proofs.Common.replicate 32 0) s 0) w) (ap (λ z. bit_at z w) (zeros 32 s) ∙ bit_at-zero w) e);
       missing = λ s l e. zeros 32 s;
+      present = λ s l e. absurd (not-one (bit_at 0 s) (bit_at-zero s) e);
+      fit = λ k. subst (λ z. z < 2 ^ 64) (sym (zeros count k)) (omega arith);
+      fits = λ s. subst (λ z. z < 2 ^ 64) (sym (zeros 32 s)) (omega arith);
     }
 
 -- one sign of a node
+
+max-zero : (n : ℕ) → max 0 n ≡ n
+max-zero n = grind arith
+
+mask-bit : (at k : ℕ) → at < 64 → bit_at (1 * 2 ^ at % 2 ^ 64) k ≡ with_one at (bit_at 0) k
+mask-bit at k l =
+    let mask : ℕ = 1 * 2 ^ at % 2 ^ 64 in
+    sym (max-zero (bit_at mask k)) ∙ ap (λ z. max z (bit_at mask k)) (sym (bit_at-zero k)) ∙ sym (bit_at_or 0 mask k) ∙ set-bit 0 at l k
+
+flip : (b : ℕ) → b < 2 → (b + 1) % 2 ≡ bit_of (nat_eq b 0)
+flip b l = elim (cases_lt b 1) [
+  | inl q ↦ let e : b ≡ 0 = omega (arith, q) in subst (λ z. (z + 1) % 2 ≡ bit_of (nat_eq z 0)) (sym e) refl
+  | inr q ↦ let e : b ≡ 1 = omega (arith, q, l) in subst (λ z. (z + 1) % 2 ≡ bit_of (nat_eq z 0)) (sym e) refl
+]
+
+pub flipped : (word at : ℕ) → at < 64 → (k : ℕ) → bit_at (bit_xor word (1 * 2 ^ at % 2 ^ 64)) k ≡ with_told (nat_eq (bit_at word at) 0) at (bit_at word) k
+flipped word at l k = go (nat_eq k at) refl
+  where
+    mask : ℕ
+    mask = 1 * 2 ^ at % 2 ^ 64
+
+    go : (t : Bool) → nat_eq k at ≡ t → bit_at (bit_xor word mask) k ≡ with_told (nat_eq (bit_at word at) 0) at (bit_at word) k
+    go true e =
+        let same : k ≡ at = nat-same k at e in
+        subst (λ z. bit_at (bit_xor word mask) z ≡ with_told (nat_eq (bit_at word at) 0) at (bit_at word) z) (sym same)
+        (bit_at_xor word mask at ∙ ap (λ z. (bit_at word at + z) % 2) (mask-bit at at l ∙ with-one_same at (bit_at 0)) ∙ flip (bit_at word at) (bit_at-lt word at)
+        ∙ sym (told-same (nat_eq (bit_at word at) 0) at (bit_at word)))
+    go false e =
+        bit_at_xor word mask k ∙ ap (λ z. (bit_at word k + z) % 2) (mask-bit at k l ∙ with-one_other at k (bit_at 0) e ∙ bit_at-zero k) ∙ same-rest (bit_at word k) (bit_at-lt word k)
+        ∙ sym (told-other (nat_eq (bit_at word at) 0) at k (bit_at word) e)
+      where
+        same-rest : (b : ℕ) → b < 2 → (b + 0) % 2 ≡ b
+        same-rest b m = omega arith
 
 pub turned : (words : List ℕ) (node sign : ℕ) (shows : Bool) (set : ℕ) → node / 64 * 32 + 32 ≤ length words → sign < 32
     → ((k : ℕ) → bit_at set k ≡ with_told shows (node % 64) (bit_at (slice_index words (node / 64 * 32 + sign))) k)
@@ -236,6 +289,12 @@ within-turned was signs sign few small e = elim (cases_lt sign 32) [
       let left = bit_at_above was 32 sign few q in
       let right = bit_at_above signs 32 sign small q in
       absurd (not-one (bit_at (bit_xor was signs) sign) (one ∙ ap₂ (λ x y. (x + y) % 2) left right) e)
+]
+
+pub other-bit : (a b : ℕ) → a < 2 → b < 2 → (a + b) % 2 ≡ 1 → bit_of (nat_eq a 0) ≡ b
+other-bit a b l m e = elim (cases_lt a 1) [
+  | inl q ↦ let z : a ≡ 0 = omega (arith, q) in subst (λ n. bit_of (nat_eq n 0) ≡ b) (sym z) (let one : 1 ≡ b = omega (arith, e, z, m) in one)
+  | inr q ↦ let z : a ≡ 1 = omega (arith, q, l) in subst (λ n. bit_of (nat_eq n 0) ≡ b) (sym z) (let none : 0 ≡ b = omega (arith, e, z, m) in none)
 ]
 
 pub changed-more : (old mid new : List ℕ) (node was signs from sign : ℕ) (shows : Bool) → AreChangedTo old mid node was signs from → from ≤ sign → ((k : ℕ) → from ≤ k → k < sign → bit_at (bit_xor was signs) k ≡ 0)
@@ -354,3 +413,50 @@ none-wanted words summary all wanted from h e k l s small is =
   where
     least : (a b : ℕ) → min a b ≡ 0 → b ≡ 1 → a ≡ 0
     least a b m f = grind arith
+
+-- where one of the wanted signs is among all
+
+both-one : (a b : ℕ) → a ≡ 1 → b ≡ 1 → min a b ≡ 1
+both-one a b e f = grind arith
+
+one-both : (a b : ℕ) → a < 2 → b < 2 → min a b ≡ 1 → (a ≡ 1) × (b ≡ 1)
+one-both a b l m e = (grind arith, grind arith)
+
+some-wanted : (words summary : List ℕ) (all wanted : ℕ) → AreSummed words summary all → wanted < 2 ^ 32 → 0 < bit_and all wanted → (k : ℕ) × ShowsSome words wanted k
+some-wanted words summary all wanted h few there_is =
+    let one = bit_at-trailing_zeros w64 (bit_and all wanted) there_is (omega (arith, and_le_r all wanted, few)) in
+    let sign : ℕ = trailing_zeros w64 (bit_and all wanted) in
+    let both = one-both (bit_at all sign) (bit_at wanted sign) (bit_at-lt all sign) (bit_at-lt wanted sign) (sym (bit_at_and all wanted sign) ∙ one.1) in
+    let small : sign < 32 = within-signs wanted sign few both.1 in
+    let word : ℕ = trailing_zeros w64 (slice_index summary sign) in
+    let there = bit_at-trailing_zeros w64 (slice_index summary sign) (h.present sign small both.0) (h.fits sign) in
+    let bit : ℕ = trailing_zeros w64 (set_of words word sign) in
+    let here = bit_at-trailing_zeros w64 (set_of words word sign) (h.some word sign small there.1) (h.fit (word * 32 + sign)) in
+    (word * 64 + bit, (sign, small, both.1, ap₂ (λ x y. bit_at (slice_index words (x * 32 + sign)) y) (div-mul-add word 64 bit here.0) (mod-mul-add word 64 bit here.0) ∙ here.1))
+
+pub absent-told : (words summary : List ℕ) (all wanted : ℕ) → AreSummed words summary all → wanted < 2 ^ 32 → AreAbsent words wanted (nat_eq (bit_and all wanted) 0)
+absent-told words summary all wanted h few = go (nat_eq (bit_and all wanted) 0) refl
+  where
+    go : (t : Bool) → nat_eq (bit_and all wanted) 0 ≡ t → AreAbsent words wanted t
+    go true e = λ k. none-wanted words summary all wanted 0 h (nat-same (bit_and all wanted) 0 e) k (omega arith)
+    go false e = some-wanted words summary all wanted h few (Rattle.batch_signs.proofs.Bits.not-zero (bit_and all wanted) (differs (bit_and all wanted) 0 e))
+
+-- of the wanted signs only those among all matter
+
+pub first-among : (words summary : List ℕ) (all wanted from : ℕ) → AreSummed words summary all → (found : Option ℕ) → IsFirstShown words (bit_and all wanted) from found → IsFirstShown words wanted from found
+first-among words summary all wanted from h found first = go found first
+  where
+    none : (k : ℕ) → ShowsNone words (bit_and all wanted) k → ShowsNone words wanted k
+    none k shows s small is = elim (one-or_none all s) [
+      | inl q ↦
+          let empty : bit_at (slice_index summary s) (k / 64) ≡ 0 = ap (λ z. bit_at z (k / 64)) (h.missing s small q) ∙ bit_at-zero (k / 64) in
+          ap (λ z. bit_at z (k % 64)) (h.none (k / 64) s small empty) ∙ bit_at-zero (k % 64)
+      | inr q ↦ shows s small (bit_at_and all wanted s ∙ both-one (bit_at all s) (bit_at wanted s) q is)
+    ]
+
+    some : (k : ℕ) → ShowsSome words (bit_and all wanted) k → ShowsSome words wanted k
+    some k shows = (shows.0, shows.1, (one-both (bit_at all shows.0) (bit_at wanted shows.0) (bit_at-lt all shows.0) (bit_at-lt wanted shows.0) (sym (bit_at_and all wanted shows.0) ∙ shows.2)).1, shows.3)
+
+    go : (found : Option ℕ) → IsFirstShown words (bit_and all wanted) from found → IsFirstShown words wanted from found
+    go None first = λ k l. none k (first k l)
+    go (Some n) first = (first.0, some n first.1, λ k l m. none k (first.2 k l m))

@@ -1,5 +1,5 @@
 -- surface: for each sign the nodes that show it.
-use Rattle.std.specs.Prelude.{◌≡◌, ◌<◌, ◌≤◌, ◌+◌, ◌*◌, ◌/◌, ◌%◌, ℕ, List, length, Bool, true, false, Option, Some, None, slice_index}
+use Rattle.std.specs.Prelude.{◌≡◌, ◌<◌, ◌≤◌, ◌+◌, ◌*◌, ◌/◌, ◌%◌, ◌^◌, ℕ, List, length, Bool, true, false, Option, Some, None, slice_index}
 use Rattle.std.specs.Int.{bit_at}
 
 -- those of 64 nodes that show the sign
@@ -13,7 +13,7 @@ sign_shown words node sign = bit_at (set_of words (node / 64) sign) (node % 64)
 abbrev pub AreRoomFor : List ℕ → ℕ → Type 0
 AreRoomFor words count = count ≤ 2 * length words
 
--- each bit of the summary tells whether its word is 0, and the summary of a sign that isn't among `all` is 0
+-- each bit of the summary tells whether its word is 0, and each bit of `all` whether the summary of its sign is 0
 pub record AreSummed (words summary : List ℕ) (all : ℕ) : Type 0 where
   pub whole : length words % 32 ≡ 0
   pub few : length words ≤ 2048
@@ -21,6 +21,9 @@ pub record AreSummed (words summary : List ℕ) (all : ℕ) : Type 0 where
   pub none : (word sign : ℕ) → sign < 32 → bit_at (slice_index summary sign) word ≡ 0 → set_of words word sign ≡ 0
   pub some : (word sign : ℕ) → sign < 32 → bit_at (slice_index summary sign) word ≡ 1 → 0 < set_of words word sign
   pub missing : (sign : ℕ) → sign < 32 → bit_at all sign ≡ 0 → slice_index summary sign ≡ 0
+  pub present : (sign : ℕ) → sign < 32 → bit_at all sign ≡ 1 → 0 < slice_index summary sign
+  pub fit : (k : ℕ) → slice_index words k < 2 ^ 64
+  pub fits : (sign : ℕ) → slice_index summary sign < 2 ^ 64
 
 abbrev pub bit_of : Bool → ℕ
 bit_of true = 1
@@ -52,3 +55,8 @@ ShowsSome words wanted node = (sign : ℕ) × (sign < 32) × (bit_at wanted sign
 abbrev pub IsFirstShown : List ℕ → ℕ → ℕ → Option ℕ → Type 0
 IsFirstShown words wanted from None = (k : ℕ) → from ≤ k → ShowsNone words wanted k
 IsFirstShown words wanted from (Some n) = (from ≤ n) × ShowsSome words wanted n × ((k : ℕ) → from ≤ k → k < n → ShowsNone words wanted k)
+
+-- whether no node shows one of the signs
+abbrev pub AreAbsent : List ℕ → ℕ → Bool → Type 0
+AreAbsent words wanted true = (k : ℕ) → ShowsNone words wanted k
+AreAbsent words wanted false = (k : ℕ) × ShowsSome words wanted k

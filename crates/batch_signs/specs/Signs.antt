@@ -1,5 +1,5 @@
 -- surface: the signs of nodes.
-use Rattle.std.specs.Prelude.{◌≡◌, ◌<◌, ◌≤◌, ℕ, List, length, Bool, true, false, not, nat_eq, Option, Some, None, slice_index, slice_set}
+use Rattle.std.specs.Prelude.{◌≡◌, ◌<◌, ◌≤◌, ℕ, List, length, Bool, true, false, not, nat_eq, Option, Some, None, is_some, slice_index, slice_set}
 use Rattle.std.specs.Int.{bit_at}
 use Rattle.std.specs.Int.Bits.{bit_and}
 use Rattle.batch_signs.specs.SignSets.{AreRoomFor, sign_shown}
@@ -23,6 +23,10 @@ NoneShows signs wanted from end = (k : ℕ) → from ≤ k → k < end → bit_a
 abbrev pub IsNextShown : List ℕ → ℕ → ℕ → Option ℕ → Type 0
 IsNextShown signs wanted from None = NoneShows signs wanted from (length signs)
 IsNextShown signs wanted from (Some n) = (from ≤ n) × (n < length signs) × (bit_and (sign_at signs n) wanted ≡ 0 → ⊥) × NoneShows signs wanted from n
+
+-- whether the search from the first node on finds none
+abbrev pub FindsNone : List ℕ → ℕ → Bool → Type 0
+FindsNone signs wanted none = (found : Option ℕ) × IsNextShown signs wanted 0 found × (is_some found ≡ not none)
 
 -- whether none of the wanted signs is shown from node n up to node m
 abbrev pub TellsNone : List ℕ → ℕ → ℕ → ℕ → Bool → Type 0

@@ -1,7 +1,7 @@
 //! For each sign the nodes that show it.
-ghost use Rattle.std.specs.Prelude.{◌≡◌, ◌<◌, ◌≤◌, ◌+◌, ◌*◌, ◌/◌, ◌%◌, ℕ, length, replicate, slice_set, IfOk};
+ghost use Rattle.std.specs.Prelude.{◌≡◌, ◌<◌, ◌≤◌, ◌+◌, ◌*◌, ◌/◌, ◌%◌, ℕ, length, nat_eq, replicate, slice_set, IfOk};
 ghost use Rattle.std.specs.Int.{bit_at};
-ghost use Rattle.batch_signs.specs.SignSets.{AreJoined, AreRoomFor, IsChangedAt, IsFirstShown, IsTurnedAt, sign_shown};
+ghost use Rattle.batch_signs.specs.SignSets.{AreAbsent, AreJoined, AreRoomFor, AreSummed, IsChangedAt, IsFirstShown, sign_shown};
 
 use crate::word::{lowest_from, with_bit_as};
 use std::alloc::{AllocError, Global};
@@ -56,40 +56,28 @@ impl Sets {
     }
 
     /// Replaces the old signs of the node by the new ones.
+    #[inline(always)]
     pub fn change(&mut self, node: usize, was: u32, signs: u32)
         requires room { node < 2 * length self.old }
         requires was { (sign : ℕ) → sign < 32 → sign_shown self.old node sign ≡ bit_at was sign }
         ensures { IsChangedAt self.old self.new node signs }
     {
-        let turned = u64::from(was ^ signs);
-        let mut from = 0;
-        while let Some(sign) = lowest_from(turned, from) {
-            self.turn(node, sign, signs >> sign & 1 == 1);
-            from = sign + 1;
-        }
+        self.all = turn_signs(
+            &mut self.words,
+            &mut self.summary,
+            self.all,
+            node,
+            was,
+            signs,
+        );
     }
 
-    /// Sets or clears the sign of the node.
-    fn turn(&mut self, node: usize, sign: usize, shows: bool)
-        requires room { node < 2 * length self.old }
-        requires sign { sign < 32 }
-        ensures { IsTurnedAt self.old self.new node sign shows }
+    /// Whether no node shows one of the signs.
+    #[inline(always)]
+    pub fn are_absent(&self, wanted: u32) -> bool
+        ensures { AreAbsent self.now wanted result }
     {
-        let word = node / 64;
-        let set = with_bit_as(self.words[word * SIGNS + sign], node % 64, shows);
-        self.write(word, sign, set);
-    }
-
-    /// Writes the set of those of 64 nodes that show the sign.
-    fn write(&mut self, word: usize, sign: usize, set: u64)
-        requires room { word * 32 + 32 ≤ length self.old }
-        requires sign { sign < 32 }
-        ensures { self.new ≡ slice_set self.old (word * 32 + sign) set }
-    {
-        self.words[word * SIGNS + sign] = set;
-        let shown = with_bit_as(self.summary[sign], word, set != 0);
-        self.summary[sign] = shown;
-        self.all = with_bit_as(self.all, sign, shown != 0);
+        self.all & u64::from(wanted) == 0
     }
 
     /// The first node from this one on that shows one of the signs.
@@ -103,7 +91,16 @@ impl Sets {
         self.search(wanted, from)
     }
 
+    /// The first node from this one on that shows one of many signs. Only the sets of the signs that a node shows are joined.
+    pub fn next_of_many(&self, wanted: u32, from: usize) -> Option<usize>
+        ensures { IsFirstShown self.now wanted from result }
+    {
+        let shown = self.all & u64::from(wanted);
+        self.search(shown as u32, from)
+    }
+
     /// The first node from this one on that shows one of the signs, by a search of the words.
+    #[inline(always)]
     fn search(&self, wanted: u32, from: usize) -> Option<usize>
         ensures { IsFirstShown self.now wanted from result }
     {
@@ -125,7 +122,39 @@ impl Sets {
     }
 }
 
+/// Replaces the old signs of the node by the new ones in the sets and in their summary. Returns the signs that a node shows.
+#[inline(always)]
+fn turn_signs(
+    words: &mut [u64],
+    summary: &mut [u64; SIGNS],
+    all: u64,
+    node: usize,
+    was: u32,
+    signs: u32,
+) -> u64
+    requires summed { AreSummed words.old summary.old all }
+    requires room { node < 2 * length words.old }
+    requires was { (sign : ℕ) → sign < 32 → sign_shown words.old node sign ≡ bit_at was sign }
+    ensures summed { AreSummed words.new summary.new result }
+    ensures changed { IsChangedAt words.old words.new node signs }
+{
+    let word = node / 64;
+    let turned = u64::from(was ^ signs);
+    let mut shown = all;
+    let mut from = 0;
+    while let Some(sign) = lowest_from(turned, from) {
+        let set = words[word * SIGNS + sign] ^ (1 << (node % 64));
+        words[word * SIGNS + sign] = set;
+        let sets = with_bit_as(summary[sign], word, set != 0);
+        summary[sign] = sets;
+        shown = with_bit_as(shown, sign, sets != 0);
+        from = sign + 1;
+    }
+    shown
+}
+
 /// The words of the wanted signs, joined, of the words from this one on, one for each sign.
+#[inline(always)]
 fn joined(words: &[u64], first: usize, wanted: u32) -> u64
     requires { first + 32 ≤ length words.now }
     ensures { AreJoined words.now first wanted 32 result }

@@ -1,6 +1,6 @@
 //! The signs of nodes, by which nodes are found.
 ghost use Rattle.std.specs.Prelude.{◌≡◌, ◌<◌, ◌≤◌, ℕ, length, replicate, slice_set, IfOk};
-ghost use Rattle.batch_signs.specs.Signs.{IsNextShown, TellsNone, replaced, sign_at};
+ghost use Rattle.batch_signs.specs.Signs.{FindsNone, IsNextShown, TellsNone, replaced, sign_at};
 
 use crate::sets::Sets;
 use std::alloc::{AllocError, Global};
@@ -40,6 +40,7 @@ impl Signs {
 
     /// The signs that the node shows.
     // claim: signs shown
+    #[inline(always)]
     pub fn at(&self, node: usize) -> u32
         ensures { result ≡ sign_at self.now node }
     {
@@ -48,6 +49,7 @@ impl Signs {
 
     /// Gives the node these signs, and no others.
     // claim: signs shown
+    #[inline(always)]
     pub fn set(&mut self, node: usize, signs: u32)
         requires { node < length self.old }
         ensures { self.new ≡ slice_set self.old node signs }
@@ -86,6 +88,15 @@ impl Signs {
         }
     }
 
+    /// Whether no node shows one of the signs.
+    // claim: next sign
+    #[inline(always)]
+    pub fn are_absent(&self, wanted: u32) -> bool
+        ensures { FindsNone self.now wanted result }
+    {
+        self.sets.are_absent(wanted)
+    }
+
     /// The first node from this one on that shows one of the signs. None if no node does.
     // claim: next sign
     #[inline(always)]
@@ -93,5 +104,13 @@ impl Signs {
         ensures { IsNextShown self.now wanted from result }
     {
         self.sets.next(wanted, from)
+    }
+
+    /// The first node from this one on that shows one of many signs, most of which no node shows. None if no node does.
+    // claim: next sign
+    pub fn next_of_many(&self, wanted: u32, from: usize) -> Option<usize>
+        ensures { IsNextShown self.now wanted from result }
+    {
+        self.sets.next_of_many(wanted, from)
     }
 }

@@ -11,7 +11,9 @@ returns-then-is_stopped c =
     (found-showing _ _ _ _ HOLDS c.next-then-is_stopped.result c.requires.noted c.next-then-is_stopped.ensures)
 
 pub returns-then-eq : goal.returns-then-eq
-returns-then-eq c = reached-complete _ _ _ _ _ _ c.is_none-then-eq.ensures (sym c.if-is_stopped.ensures) (sym c.if-eq.ensures) (found-showing _ _ _ _ IS_ACT c.next-then-eq.result c.requires.noted c.next-then-eq.ensures)
+returns-then-eq c =
+    let absent = c.are_absent.ensures in
+    reached-complete _ _ _ _ absent.0 _ absent.2 (sym c.if-is_stopped.ensures) (sym c.if-eq.ensures) (found-showing _ _ _ _ IS_ACT absent.0 c.requires.noted absent.1)
 
 pub returns : goal.returns
 returns c =
