@@ -1,5 +1,5 @@
 -- trusted: the answer to a line, and to an event, as far as it was written: all of it at Ok, and after a write fault a prefix.
-use Rattle.std.specs.Prelude.{ℕ, List, map, flat_map, Option, Result, Ok, Err}
+use Rattle.std.specs.Prelude.{◌≡◌, ◌++◌, ℕ, List, map, flat_map, Option, Result, Ok, Err}
 use Rattle.std.specs.Io.KnownBytes.{Appends}
 use Rattle.batch_model.specs.Events as Model
 use Rattle.batch_model.specs.Moves.{Move}
@@ -17,11 +17,12 @@ outs_text outs = flat_map out_text outs
 abbrev pub moves_text : List Move → List ℕ
 moves_text moves = outs_text (map move moves)
 
--- moves are made and written until there is none
-abbrev pub WritesMoves : Setup → Plant → Result (Unit {0}) WriteFault → Plant → Option (List ℕ) → Option (List ℕ) → Type 0
-WritesMoves c old (Ok done) new before after = (moves : List Move) × Settles c old moves new × Appends before after (moves_text moves)
-WritesMoves c old (Err fault) new before after =
-    (moves : List Move) × (last : Plant) × Settles c old moves last × AppendsBeginning before after (moves_text moves)
+-- moves are made until there is none; a text waits, and theirs is put behind it or written with it
+abbrev pub AddsMoves : Setup → Plant → Result (Unit {0}) WriteFault → Plant → Option (List ℕ) → Option (List ℕ) → List ℕ → List ℕ → Type 0
+AddsMoves c old (Ok done) new before after waited waits =
+    (moves : List Move) × Settles c old moves new × (written : List ℕ) × Appends before after written × (waited ++ moves_text moves ≡ written ++ waits)
+AddsMoves c old (Err fault) new before after waited waits =
+    (moves : List Move) × (last : Plant) × Settles c old moves last × AppendsBeginning before after (waited ++ moves_text moves)
 
 -- the event is handled, and its outs are written
 abbrev pub WritesHandled : Setup → Plant → Model.Event → Result (Unit {0}) WriteFault → Plant → Option (List ℕ) → Option (List ℕ) → Type 0

@@ -27,7 +27,7 @@ parted_at s m e text before after within =
     ap (drop s) (sym (take-append-drop m (take e text)) ∙ ap (λ t. t ++ drop m (take e text)) (take-take m e text after))
     ∙ drop-append-le s (take m text) (drop m (take e text)) (omega (arith, before, length-take-le m text within))
 
-drop_of_take : (m e : ℕ) (text : List ℕ) → m ≤ e → drop m (take e text) ≡ take (e - m) (drop m text)
+pub drop_of_take : (m e : ℕ) (text : List ℕ) → m ≤ e → drop m (take e text) ≡ take (e - m) (drop m text)
 drop_of_take m e text le = ap (λ j. drop m (take j text)) (omega (arith, le)) ∙ drop-take m (e - m) text
 
 -- digits were put in front of the byte 23

@@ -5,6 +5,7 @@ use Rattle.batch_recipe.specs.Texts.{place_text}
 use Rattle.batch_verify.specs.ClearedSet.{ClearedSet}
 use Rattle.batch_engine.specs.Names.{recipe_place_at}
 use Rattle.batch_wire.specs.declared.known_places.KnownPlaces.{KnownPlaces}
+use Rattle.batch_wire.specs.declared.line_room.LineRoom.{LineRoom}
 use Rattle.batch_wire.specs.declared.recipe_places.Known.{Known}
 use Rattle.batch_wire.specs.declared.recipe_places.RecipePlaces.{RecipePlaces}
 
@@ -31,6 +32,13 @@ AreKnownIn c k = AreKnownBy (λ node. place_text (recipe_place_at c k.recipe nod
 -- and of several recipes
 abbrev pub AreKnown : ClearedSet → KnownPlaces → Type 0
 AreKnown c k = All (AreKnownIn c) k.recipes
+
+-- the text that waits to be written
+abbrev pub waiting_in : LineRoom → List ℕ
+waiting_in room = take room.len room.bytes
+
+abbrev pub waiting : KnownPlaces → List ℕ
+waiting k = waiting_in k.line
 
 -- a text ends there, after all kept ones
 pub record EndsAt (text : List ℕ) (end : ℕ) (k : RecipePlaces) : Type 0 where

@@ -1,7 +1,7 @@
 //! A cache of the places that were written last.
-ghost use Rattle.std.specs.Prelude.{◌<◌};
+ghost use Rattle.std.specs.Prelude.{◌≡◌, ◌<◌, []};
 ghost use Rattle.batch_verify.specs.ClearedSet.{ClearedSet};
-ghost use Rattle.batch_wire.specs.Known.{AreKnown};
+ghost use Rattle.batch_wire.specs.Known.{AreKnown, waiting};
 
 use crate::line_room::LineRoom;
 use crate::recipe_places::RecipePlaces;
@@ -14,7 +14,7 @@ const RECIPES: usize = 64;
 #[derive(Drop)]
 pub struct KnownPlaces {
     pub(crate) recipes: [RecipePlaces; RECIPES],
-    /// The room in which lines are put together, so that none has to be cleared for each.
+    /// The lines that wait to be written.
     pub(crate) line: LineRoom,
 }
 
@@ -27,6 +27,17 @@ impl KnownPlaces {
             recipes: [RecipePlaces::new(); RECIPES],
             line: LineRoom::new(),
         }
+    }
+}
+
+impl KnownPlaces {
+    /// Forgets the text that waits.
+    #[inline(always)]
+    pub fn forget_waiting(&mut self)
+        ensures known { (cleared : ClearedSet) → AreKnown cleared self.old → AreKnown cleared self.new }
+        ensures none { waiting self.new ≡ [] }
+    {
+        self.line.clear();
     }
 }
 

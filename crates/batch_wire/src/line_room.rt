@@ -3,15 +3,18 @@ ghost use Rattle.std.specs.Prelude.{◌≡◌, ◌≤◌, [], Some, take};
 
 use std::io::{Result, Write};
 
-/// The longest line that is put together before it is written. Few are longer.
-const ROOM: usize = 384;
+/// The most bytes that wait to be written. Few lines are longer.
+pub(crate) const FULL: usize = 1408;
 
-/// A writer like any other, whose contents are the line so far. A piece that finds no room is refused.
+/// Room for a line more, and for what is copied beyond its end.
+const ROOM: usize = FULL + 640;
+
+/// A writer like any other, whose contents wait to be written. A piece that finds no room is refused.
 #[derive(Drop)]
 pub(crate) struct LineRoom {
-    len: usize,
-    bytes: [u8; ROOM],
-    ghost few: { len ≤ 384 },
+    pub(crate) len: usize,
+    pub(crate) bytes: [u8; ROOM],
+    ghost few: { len ≤ 1408 },
 }
 
 impl LineRoom {
@@ -46,7 +49,7 @@ impl Write for LineRoom {
     fn write(&mut self, piece: &[u8]) -> Result<usize> {
         let start = self.len;
         let end = start + piece.len();
-        if end > ROOM {
+        if end > FULL {
             return Ok(0);
         }
         match piece {

@@ -21,7 +21,7 @@ const MAX_DEPTH: usize = 192;
 const PLACE_START: usize = 24;
 
 /// The greatest end of the text of a cached place.
-const MAX_PLACE_END: usize = 408;
+pub(crate) const MAX_PLACE_END: usize = 408;
 
 /// The nodes from a recipe's root to the one whose place was written last, and the text of that place, which begins with the
 /// places of the nodes above. In front of it is the batch that was written last.
@@ -133,7 +133,8 @@ impl RecipePlaces {
         self.reach(recipe, node)
     }
 
-    /// Puts the digits of the batch in front of the place, unless there is no room for them.
+    /// Puts the digits of the batch in front of the place if they aren't there, unless there is no room for them.
+    #[inline(always)]
     fn hold_batch(&mut self, batch: u64) -> bool
         ensures known { (text_of : ℕ → List ℕ) → AreKnownBy text_of self.old → AreKnownBy text_of self.new }
         ensures recipe { self.new.recipe ≡ self.old.recipe }
@@ -144,6 +145,15 @@ impl RecipePlaces {
                 return true;
             }
         }
+        self.put_batch(batch)
+    }
+
+    /// Puts the digits of the batch in front of the place, unless there is no room for them.
+    fn put_batch(&mut self, batch: u64) -> bool
+        ensures known { (text_of : ℕ → List ℕ) → AreKnownBy text_of self.old → AreKnownBy text_of self.new }
+        ensures recipe { self.new.recipe ≡ self.old.recipe }
+        ensures holds { IsTrue result → self.new.batch ≡ Some batch }
+    {
         let mut digits = Buffer::new();
         match put_piece(
             &mut self.text,

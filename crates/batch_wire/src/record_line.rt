@@ -1,5 +1,5 @@
 //! Writing a line of the record.
-ghost use Rattle.std.specs.Prelude.{◌≡◌, ◌≤◌, Some, ◌∷◌, [], ◌++◌, IfSome, map, codes, decimal, drop, length};
+ghost use Rattle.std.specs.Prelude.{◌≡◌, ◌≤◌, Some, ◌∷◌, [], ◌++◌, IfSome, map, codes, decimal, drop, length, take};
 ghost use Rattle.std.specs.List.{zip};
 ghost use Rattle.batch_recipe.specs.Texts.{line_text, place_text};
 ghost use Rattle.batch_engine.specs.Names.{handed_at, need_of, phase_name, recipe_place_at, recipe_name, resource_name, roles_of, roles_taken};
@@ -7,19 +7,20 @@ ghost use Rattle.batch_engine.specs.Surface.{out_of, reply_of, move_of, refusal_
 ghost use Rattle.batch_engine.specs.declared.line.Line.TheVariants as lines;
 ghost use Rattle.batch_engine.specs.declared.reply.Reply.TheVariants as replies;
 ghost use Rattle.batch_verify.specs.ClearedSet.{ClearedSet};
-ghost use Rattle.batch_wire.specs.Known.{AreKnown, AreKnownIn};
+ghost use Rattle.batch_wire.specs.Known.{AreKnown, AreKnownIn, waiting, waiting_in};
 ghost use Rattle.batch_wire.specs.Pieces.{before, created_front, phase_front, roles_text, text_of_site, told_by_move, told_by_out, told_by_reply, told_text, values_text};
 ghost use Rattle.batch_wire.specs.RecordText.{out_text, reply_words, refusal_words, move_words, state_text, command_text, report_text, role_text, value_text, need_text, value_texts};
-ghost use Rattle.batch_wire.specs.Written.{Writes};
+ghost use Rattle.batch_wire.specs.Written.{Adds, Writes};
 
 use crate::fault::WriteFault;
 use crate::known_places::{KnownPlaces, seat_of};
-use crate::line_room::LineRoom;
+use crate::line_room::{FULL, LineRoom};
 use crate::names::{
     chart_act_name, handed_names, output_name, phase_name, recipe_at, recipe_name, resource_name,
     value_name,
 };
 use crate::places::{ToldPlace, write_node_place, write_place};
+use crate::quick_lines::{ToldSite, put_out};
 use crate::recipe_places::RecipePlaces;
 use crate::site::Site;
 use crate::writing::{write_all, write_pieces};
@@ -42,10 +43,12 @@ pub fn write_out<W: Write>(out: &Out, cleared: &Cleared, writer: &mut W) -> Resu
     }
 }
 
-/// Writes the same line, in one piece if it isn't too long. The text of its place is put together from the recipe's cached one, and is
-/// cached in its turn. So each of many lines of a batch costs the difference of its place from the one before.
-// claim: record lines
-pub fn write_out_knowing<W: Write>(
+/// Adds the line of an out to the text that waits, and writes that text if there is little room behind it. A line that is long or rare is
+/// written at once, behind the text that waits. The text of its place is put together from the recipe's cached one, and is cached in its
+/// turn. So each of many lines of a batch costs the difference of its place from the one before.
+// claim: record lines; line cut off
+#[inline(always)]
+pub fn add_out<W: Write>(
     out: &Out,
     cleared: &Cleared,
     places: &mut KnownPlaces,
@@ -53,11 +56,11 @@ pub fn write_out_knowing<W: Write>(
 ) -> Result<(), WriteFault>
     requires { AreKnown cleared.now places.old }
     ensures known { AreKnown cleared.now places.new }
-    ensures written { Writes (W.contents writer.old) (W.contents writer.new) result (out_text (out_of cleared.now out.now)) }
+    ensures added { Adds (W.contents writer.old) (W.contents writer.new) (waiting places.old) (waiting places.new) result (out_text (out_of cleared.now out.now)) }
 {
     let site = site_of(out);
     let seat = seat_of(site);
-    write_site(
+    add_site(
         out,
         cleared,
         site,
@@ -67,9 +70,19 @@ pub fn write_out_knowing<W: Write>(
     )
 }
 
-/// Writes the line of an out with this site, or with none, by the cached places.
+/// Writes the text that waits.
+// claim: line cut off
+pub fn write_waiting<W: Write>(places: &mut KnownPlaces, writer: &mut W) -> Result<(), WriteFault>
+    ensures known { (cleared : ClearedSet) → AreKnown cleared places.old → AreKnown cleared places.new }
+    ensures none { waiting places.new ≡ [] }
+    ensures written { Writes (W.contents writer.old) (W.contents writer.new) result (waiting places.old) }
+{
+    write_room(&mut places.line, writer)
+}
+
+/// Adds the line of an out with this site, or with none, by the cached places.
 #[inline(always)]
-fn write_site<W: Write>(
+fn add_site<W: Write>(
     out: &Out,
     cleared: &Cleared,
     site: Option<Site>,
@@ -80,32 +93,104 @@ fn write_site<W: Write>(
     requires known { AreKnownIn cleared.now places.old }
     requires told { text_of_site cleared.now site ≡ told_by_out (out_of cleared.now out.now) }
     ensures known { AreKnownIn cleared.now places.new }
-    ensures written { Writes (W.contents writer.old) (W.contents writer.new) result (out_text (out_of cleared.now out.now)) }
+    ensures added { Adds (W.contents writer.old) (W.contents writer.new) (waiting_in room.old) (waiting_in room.new) result (out_text (out_of cleared.now out.now)) }
 {
-    let Some((start, end)) = places.find_site(cleared, site) else {
-        return write_out(out, cleared, writer);
-    };
-    let known = &places.text[..end];
-    let told = ToldPlace::Known(&known[start..]);
-    write_line(out, cleared, &told, room, writer)
+    match places.find_site(cleared, site) {
+        Some((start, end)) => {
+            let told = ToldSite {
+                text: &places.text,
+                start,
+                end,
+            };
+            add_line(out, cleared, told, room, writer)
+        }
+        None => write_long(*out, cleared, room, writer),
+    }
 }
 
-/// Writes the line of an out with this place: at once if the room holds it, else piece by piece.
+/// Adds the line of an out with this place.
 #[inline(always)]
-fn write_line<W: Write>(
+fn add_line<W: Write>(
     out: &Out,
     cleared: &Cleared,
-    told: &ToldPlace<'_>,
+    told: ToldSite<'_>,
     room: &mut LineRoom,
     writer: &mut W,
 ) -> Result<(), WriteFault>
-    requires { told_text told.now ≡ told_by_out (out_of cleared.now out.now) }
-    ensures { Writes (W.contents writer.old) (W.contents writer.new) result (out_text (out_of cleared.now out.now)) }
+    requires order { (told.start ≤ told.end) × (told.end ≤ 408) }
+    requires told { drop told.start (take told.end told.text.now) ≡ told_by_out (out_of cleared.now out.now) }
+    ensures { Adds (W.contents writer.old) (W.contents writer.new) (waiting_in room.old) (waiting_in room.new) result (out_text (out_of cleared.now out.now)) }
 {
-    room.clear();
-    match write_out_at(out, cleared, told, room) {
-        Ok(()) => write_all(writer, room.line()),
-        Err(_) => write_by_pieces(out, cleared, told, writer),
+    let start = room.len;
+    match put_out(&mut room.bytes, start, out, cleared, told) {
+        Some(end) => pass_full(end, room, writer),
+        None => write_rare(*out, cleared, told, room, writer),
+    }
+}
+
+/// Lets the text up to this end wait, or writes it if it is too long.
+#[inline(always)]
+fn pass_full<W: Write>(end: usize, room: &mut LineRoom, writer: &mut W) -> Result<(), WriteFault>
+    requires { end ≤ length room.old.bytes }
+    ensures { Adds (W.contents writer.old) (W.contents writer.new) (take end room.old.bytes) (waiting_in room.new) result [] }
+{
+    if end <= FULL {
+        room.len = end;
+        return Ok(());
+    }
+    room.len = 0;
+    write_all(writer, &room.bytes[..end])
+}
+
+/// Writes the text that waits.
+fn write_room<W: Write>(room: &mut LineRoom, writer: &mut W) -> Result<(), WriteFault>
+    ensures none { waiting_in room.new ≡ [] }
+    ensures written { Writes (W.contents writer.old) (W.contents writer.new) result (waiting_in room.old) }
+{
+    let end = room.len;
+    room.len = 0;
+    write_all(writer, &room.bytes[..end])
+}
+
+/// Writes the text that waits, and then the line of an out whose place isn't cached.
+#[inline(never)]
+fn write_long<W: Write>(
+    out: Out,
+    cleared: &Cleared,
+    room: &mut LineRoom,
+    writer: &mut W,
+) -> Result<(), WriteFault>
+    ensures none { waiting_in room.new ≡ [] }
+    ensures written { Writes (W.contents writer.old) (W.contents writer.new) result (waiting_in room.old ++ out_text (out_of cleared.now out)) }
+{
+    write_room(room, writer)?;
+    write_out(&out, cleared, writer)
+}
+
+/// Writes the text that waits, and then the line of an out with this place, which is rarely written: in one piece if the room holds it.
+#[inline(never)]
+fn write_rare<W: Write>(
+    out: Out,
+    cleared: &Cleared,
+    told: ToldSite<'_>,
+    room: &mut LineRoom,
+    writer: &mut W,
+) -> Result<(), WriteFault>
+    requires order { (told.start ≤ told.end) × (told.end ≤ 408) }
+    requires told { drop told.start (take told.end told.text.now) ≡ told_by_out (out_of cleared.now out) }
+    ensures none { waiting_in room.new ≡ [] }
+    ensures written { Writes (W.contents writer.old) (W.contents writer.new) result (waiting_in room.old ++ out_text (out_of cleared.now out)) }
+{
+    write_room(room, writer)?;
+    let ToldSite { text, start, end } = told;
+    let known = &text[..end];
+    let told = ToldPlace::Known(&known[start..]);
+    match write_out_at(&out, cleared, &told, room) {
+        Ok(()) => write_room(room, writer),
+        Err(_) => {
+            room.clear();
+            write_by_pieces(&out, cleared, &told, writer)
+        }
     }
 }
 
