@@ -16,8 +16,9 @@ use std::alloc::{AllocError, Global};
 fn boxed<T: Drop>(alloc: Global, mut parts: Vec<T>) -> Result<Box<Vec<T>>, AllocError>
     ensures { IfOk result (λ kept. kept.value.items ≡ parts.items) }
 {
-    parts.shrink_to_fit();
-    Ok(Box::new(alloc, parts)?)
+    let mut kept = Vec::with_capacity(alloc, parts.len())?;
+    kept.append(&mut parts)?;
+    Ok(Box::new(alloc, kept)?)
 }
 
 /// The end of a `seq`.
