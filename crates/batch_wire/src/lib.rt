@@ -14,6 +14,7 @@ mod putting;
 mod quick_lines;
 mod recipe_places;
 mod record_line;
+mod record_words;
 mod report_line;
 mod rows;
 mod site;

@@ -9,7 +9,7 @@ ghost use Rattle.batch_engine.specs.declared.reply.Reply.TheVariants as replies;
 ghost use Rattle.batch_verify.specs.ClearedSet.{ClearedSet};
 ghost use Rattle.batch_wire.specs.Known.{AreKnown, AreKnownIn, waiting, waiting_in};
 ghost use Rattle.batch_wire.specs.Pieces.{before, created_front, phase_front, roles_text, text_of_site, told_by_move, told_by_out, told_by_reply, told_text, values_text};
-ghost use Rattle.batch_wire.specs.RecordText.{out_text, reply_words, refusal_words, move_words, state_text, command_text, report_text, role_text, value_text, need_text, value_texts};
+ghost use Rattle.batch_wire.specs.RecordText.{out_text, reply_words, refusal_words, move_words, state_text, command_text, role_text, value_text, need_text, value_texts};
 ghost use Rattle.batch_wire.specs.Written.{Adds, Writes};
 
 use crate::fault::WriteFault;
@@ -22,6 +22,7 @@ use crate::names::{
 use crate::places::{ToldPlace, write_node_place, write_place};
 use crate::quick_lines::{ToldSite, put_out};
 use crate::recipe_places::RecipePlaces;
+use crate::record_words::{command_text, inner_word, last_word};
 use crate::site::Site;
 use crate::writing::{write_all, write_pieces};
 use batch_engine::{ClaimKind, Line, Out, Refusal, Reply};
@@ -769,54 +770,4 @@ fn write_value<W: Write>(name: &[u8], value: u64, writer: &mut W) -> Result<(), 
 {
     let mut digits = Buffer::new();
     write_pieces(writer, &[b" ", name, b"=", digits.format(value).as_bytes()])
-}
-
-/// The state as the last word of a line: a space before it, and the line's end after it.
-pub(crate) fn last_word(state: State) -> &'static [u8]
-    ensures { result.now ≡ codes " " ++ (state_text state ++ codes "\n") }
-{
-    match state {
-        State::Idle => b" idle\n",
-        State::Running => b" running\n",
-        State::Pausing => b" pausing\n",
-        State::Paused => b" paused\n",
-        State::Holding => b" holding\n",
-        State::Held => b" held\n",
-        State::Restarting => b" restarting\n",
-        State::Stopping => b" stopping\n",
-        State::Stopped => b" stopped\n",
-        State::Aborting => b" aborting\n",
-        State::Aborted => b" aborted\n",
-        State::Complete => b" complete\n",
-    }
-}
-
-fn command_text(command: Command) -> &'static [u8]
-    ensures { result.now ≡ command_text command }
-{
-    match command {
-        Command::Start => b"start",
-        Command::Pause => b"pause",
-        Command::Resume => b"resume",
-        Command::Hold => b"hold",
-        Command::Restart => b"restart",
-        Command::Stop => b"stop",
-        Command::Abort => b"abort",
-        Command::Reset => b"reset",
-    }
-}
-
-/// The report of a phase, as a word with a space on either side.
-pub(crate) fn inner_word(word: Report) -> &'static [u8]
-    ensures { result.now ≡ codes " " ++ (report_text word ++ codes " ") }
-{
-    match word {
-        Report::Done => b" done ",
-        Report::Paused => b" paused ",
-        Report::Held => b" held ",
-        Report::Running => b" running ",
-        Report::Stopped => b" stopped ",
-        Report::Aborted => b" aborted ",
-        Report::Fault => b" fault ",
-    }
 }
