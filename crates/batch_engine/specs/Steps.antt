@@ -198,7 +198,3 @@ pub record IsLineAt (v : EngineView) (i : ℕ) (m : Move) (line : Line) : Type 0
   pub at : slice_get v.batches i ≡ Some batch
   pub tells : Tells v batch m line
 
--- the line of a batch's own step is that of its move; a grant calls the arbiter without its line, which may be any
-abbrev pub IsLineOf : EngineView → Step → Line → Type 0
-IsLineOf v (Own i m) line = IsLineAt v i m line
-IsLineOf v (Grant i node resource units) line = ⊤

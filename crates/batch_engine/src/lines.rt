@@ -1,19 +1,18 @@
 //! The lines of moves.
-ghost use Rattle.std.specs.Prelude.{◌≡◌, ◌≤◌, Some, length};
+ghost use Rattle.std.specs.Prelude.{◌≡◌, ◌≤◌, length};
 ghost use Rattle.std.specs.List.{zip};
 ghost use Rattle.batch_chart.specs.declared.chart_move.Move.TheVariants as Moves;
 ghost use Rattle.batch_model.specs.Moves.{handed_values};
 ghost use Rattle.batch_recipe.specs.declared.act.TheConstants.{MAX_VALUES};
 ghost use Rattle.batch_engine.specs.declared.line.Line.TheVariants as Lines;
 ghost use Rattle.batch_engine.specs.Names.{handed_of, node_of};
-ghost use Rattle.batch_engine.specs.Steps.{IsLineAt, IsLineOf, IsNext, IsNextStep, IsNodeAt, IsOwnStep, IsPhaseAt, Tells, TellsNext};
+ghost use Rattle.batch_engine.specs.Steps.{IsGrantStep, IsLineAt, IsNext, IsNodeAt, IsOwnStep, IsPhaseAt, Tells, TellsNext};
 
 use crate::batch::Batch;
 use crate::control::Control;
 use crate::line::{ClaimKind, Line};
 use crate::pending::resource_at;
 use crate::phase_number::{NO_PHASE, PhaseNumber, phase_by};
-use crate::step::Step;
 use batch_chart::Move;
 use batch_matrix::Command;
 use batch_recipe::{Kind, LabelTable, MAX_VALUES, Recipe, Values, Work, act_at};
@@ -99,7 +98,6 @@ fn pass_line(batch: &Batch, node: u16, to: u16, share: (u16, u32)) -> Line
 
 impl Control {
     /// The numbers of the phase that an act of a batch runs. Those of an act that runs none name nothing.
-    #[inline(always)]
     pub(crate) fn phase_at(&self, batch: &Batch, node: u16) -> PhaseNumber
         requires { IsNodeAt self.now batch.now node }
         ensures { IsPhaseAt self.now.cleared batch.now node result.unit result.phase }
@@ -152,7 +150,7 @@ impl Control {
 
     /// The line of a move of the batch at an index.
     #[inline(always)]
-    fn own_line(&self, index: usize, made: Move) -> Line
+    pub(crate) fn own_line(&self, index: usize, made: Move) -> Line
         requires { IsOwnStep self.now (IsNext self.now) index made }
         ensures { IsLineAt self.now index made result }
     {
@@ -193,24 +191,13 @@ impl Control {
         }
     }
 
-    /// The line of a step.
+    /// The line of a grant to the act at a node of the batch at an index.
     #[inline(always)]
-    pub(crate) fn line_of(&self, step: Step) -> Line
-        requires { IsNextStep self.now (Some step) }
-        ensures next { TellsNext self.now result }
-        ensures line { IsLineOf self.now step result }
+    pub(crate) fn grant_line(&self, index: usize, node: u16, resource: u16, units: u32) -> Line
+        requires { IsGrantStep self.now (IsNext self.now) index node resource units }
+        ensures { TellsNext self.now result }
     {
-        match step {
-            Step::Own { index, made } => self.own_line(index, made),
-            Step::Grant {
-                index,
-                node,
-                resource,
-                units,
-            } => {
-                let batch = &self.batches[index];
-                claim_line(ClaimKind::Granted, batch, node, (resource, units))
-            }
-        }
+        let batch = &self.batches[index];
+        claim_line(ClaimKind::Granted, batch, node, (resource, units))
     }
 }

@@ -1,8 +1,7 @@
 //! Making the next move.
 ghost use Rattle.std.specs.Prelude.{◌≡◌, Some};
 ghost use Rattle.batch_chart.specs.declared.chart_move.Move.TheVariants as Moves;
-ghost use Rattle.batch_engine.specs.Steps.{CanClaim, IsGrantStep, IsLineAt, IsLineOf, IsNext, IsNextStep, IsOfAct, IsOwnStep, MakesNext, TellsNext, claimed_by};
-ghost use Rattle.batch_engine.specs.declared.step.Step.TheVariants.{Own};
+ghost use Rattle.batch_engine.specs.Steps.{CanClaim, IsGrantStep, IsLineAt, IsNext, IsNextStep, IsOfAct, IsOwnStep, MakesNext, TellsNext, claimed_by};
 
 use crate::control::Control;
 use crate::line::{ClaimKind, Line};
@@ -92,41 +91,11 @@ impl Control {
         }
     }
 
-    /// Makes the next step, whose line this is.
-    #[inline(always)]
-    fn carry_out(&mut self, step: Step, line: &Line)
-        requires step { IsNextStep self.old (Some step) }
-        requires line { IsLineOf self.old step line.now }
-        ensures { MakesNext self.old self.new }
-    {
-        match step {
-            Step::Own { index, made } => self.carry_out_own(index, made, line),
-            Step::Grant {
-                index,
-                node,
-                resource,
-                units,
-            } => self.grant(index, node, resource, units),
-        }
-    }
-
-    /// Makes the next step, and returns its line.
-    #[inline(always)]
-    fn make(&mut self, step: Step) -> Line
-        requires { IsNextStep self.old (Some step) }
-        ensures told { TellsNext self.old result }
-        ensures made { MakesNext self.old self.new }
-    {
-        let line = self.line_of(step);
-        self.carry_out(step, &line);
-        line
-    }
-
-    /// The same of a move of the batch at an index. Each kind of move has a copy of the code, from which the compiler leaves out the tests of
-    /// the kind.
+    /// Makes the next step, a move of the batch at an index, and returns its line. Each kind of move has a copy of the code, from which the
+    /// compiler leaves out the tests of the kind.
     #[inline(always)]
     fn make_own_by_kind(&mut self, index: usize, made: Move) -> Line
-        requires { IsNextStep self.old (Some (Own index made)) }
+        requires { IsOwnStep self.old (IsNext self.old) index made }
         ensures told { TellsNext self.old result }
         ensures made { MakesNext self.old self.new }
     {
@@ -142,13 +111,28 @@ impl Control {
         }
     }
 
+    /// The same of a move of any kind. Its code is small enough for the compiler, which makes nothing inline that is much larger.
     #[inline(always)]
     fn make_own(&mut self, index: usize, made: Move) -> Line
-        requires { IsNextStep self.old (Some (Own index made)) }
+        requires { IsOwnStep self.old (IsNext self.old) index made }
         ensures told { TellsNext self.old result }
         ensures made { MakesNext self.old self.new }
     {
-        self.make(Step::Own { index, made })
+        let line = self.own_line(index, made);
+        self.carry_out_own(index, made, &line);
+        line
+    }
+
+    /// Makes the next step, a grant, and returns its line.
+    #[inline(always)]
+    fn make_grant(&mut self, index: usize, node: u16, resource: u16, units: u32) -> Line
+        requires { IsGrantStep self.old (IsNext self.old) index node resource units }
+        ensures told { TellsNext self.old result }
+        ensures made { MakesNext self.old self.new }
+    {
+        let line = self.grant_line(index, node, resource, units);
+        self.grant(index, node, resource, units);
+        line
     }
 
     /// Makes the next step, and returns its line.
@@ -165,12 +149,7 @@ impl Control {
                 node,
                 resource,
                 units,
-            } => self.make(Step::Grant {
-                index,
-                node,
-                resource,
-                units,
-            }),
+            } => self.make_grant(index, node, resource, units),
         }
     }
 }
