@@ -1,9 +1,11 @@
 //! The bytes of a name, and where it keeps them.
-ghost use Rattle.std.specs.Prelude.{◌≡◌, ◌≤◌, length, nat_eq, IfOk};
+ghost use Rattle.std.specs.Prelude.{◌≡◌, ◌+◌, ◌<◌, ◌≤◌, ◌++◌, length, nat_eq, slice_index, take, true, false, IfOk, IfSome};
 ghost use Rattle.std.specs.Cmp.Lexicographic.{pointwise};
+ghost use Rattle.std.specs.List.{list_all};
+ghost use Rattle.batch_text.specs.NameText.{is_name_byte};
 ghost use Rattle.batch_text.specs.Spelling.{letters, IsWithinRoom};
 
-use crate::name::MAX_NAME_LEN;
+use crate::name::{MAX_NAME_LEN, is_name_byte};
 use std::alloc::{AllocError, Global};
 
 /// The most bytes that a name keeps inside itself: its 16 bytes but for a tag and a length.
@@ -54,6 +56,55 @@ impl Spelling {
         match self {
             Spelling::Short { len, bytes } => &bytes[..*len as usize],
             Spelling::Long { len, bytes } => &bytes[..*len as usize],
+        }
+    }
+
+    /// The spelling of the longest front of the bytes that may stand in a name, and its length. None if no byte follows it, or it is long.
+    #[inline(always)]
+    pub(crate) fn read_front(bytes: &[u8]) -> Option<(Spelling, usize)>
+        ensures within { IfSome result (λ front. front.1 < length bytes.now) }
+        ensures letters { IfSome result (λ front. letters front.0 ≡ take front.1 bytes.now) }
+        ensures within_room { IfSome result (λ front. IsWithinRoom front.0) }
+        ensures spelled { IfSome result (λ front. list_all is_name_byte (take front.1 bytes.now) ≡ true) }
+        ensures longest { IfSome result (λ front. is_name_byte (slice_index bytes.now front.1) ≡ false) }
+    {
+        let mut room = [0; MAX_SHORT_LEN];
+        for (i, byte) in bytes.iter().enumerate() {
+            if !is_name_byte(*byte) {
+                return Some((
+                    Spelling::Short {
+                        len: i as u8,
+                        bytes: room,
+                    },
+                    i,
+                ));
+            }
+            if i == MAX_SHORT_LEN {
+                return None;
+            }
+            room[i] = *byte;
+        }
+        None
+    }
+
+    /// Puts the bytes into a text from `at` on, and returns their end. What is behind them may change: the room is copied whole, since its
+    /// length is a constant.
+    #[inline(always)]
+    pub(crate) fn put(&self, text: &mut [u8], at: usize) -> usize
+        requires within { IsWithinRoom self.now }
+        requires room { at + MAX_NAME_LEN ≤ length text.old }
+        ensures end { result ≡ at + length (letters self.now) }
+        ensures put { take result text.new ≡ take at text.old ++ letters self.now }
+    {
+        match self {
+            Spelling::Short { len, bytes } => {
+                text[at..at + MAX_SHORT_LEN].copy_from_slice(bytes);
+                at + *len as usize
+            }
+            Spelling::Long { len, bytes } => {
+                text[at..at + MAX_NAME_LEN].copy_from_slice(&bytes[..]);
+                at + *len as usize
+            }
         }
     }
 

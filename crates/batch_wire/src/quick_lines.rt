@@ -44,7 +44,7 @@ fn put_name(text: &mut [u8], at: usize, name: &Name) -> usize
     ensures put { take result text.new ≡ take at text.old ++ (codes " " ++ name.now) }
 {
     text[at] = b' ';
-    put_word(text, at + 1, name.text().as_bytes())
+    name.put(text, at + 1)
 }
 
 /// Puts a state as the last word of a line: a space before it, and the line's end after it.
