@@ -124,7 +124,6 @@ impl Control {
     }
 
     /// Makes the next step, a grant, and returns its line.
-    #[inline(always)]
     fn make_grant(&mut self, index: usize, node: u16, resource: u16, units: u32) -> Line
         requires { IsGrantStep self.old (IsNext self.old) index node resource units }
         ensures told { TellsNext self.old result }

@@ -111,7 +111,6 @@ impl Control {
     }
 
     /// The first act of a batch in a queue that the arbiter would serve: its node, its resource and how many units of it.
-    #[inline(always)]
     fn first_grant(&self, batch: &Batch) -> Option<(u16, u16, u32)>
         requires { IsBatch self.now batch.now }
         ensures { IsFirstGrant self.now batch.now result }

@@ -20,9 +20,9 @@ returns-then-is_stopped c =
 
 pub returns : goal.returns
 returns c =
-    next-entered _ _ _ _ c.next-2.result _ c.requires.lives (showing IS_OVER) (λ t b q k a d. tells-ending b (ap is_running q.2 ∙ sym c.if-is_running.ensures)
+    next-entered _ _ _ _ c.next_of_many.result _ c.requires.lives (showing IS_OVER) (λ t b q k a d. tells-ending b (ap is_running q.2 ∙ sym c.if-is_running.ensures)
     (ap (λ z. is_stopping z || is_stopped z) q.2 ∙ ap (λ z. z || is_stopped c.args.state) (sym c.if-is_stopping.ensures) ∙ sym c.if-is_stopped.ensures) k a d)
-    (found-showing _ _ _ _ IS_OVER c.next-2.result c.requires.noted c.next-2.ensures) c.entry_of-2.ensures
+    (found-showing _ _ _ _ IS_OVER c.next_of_many.result c.requires.noted c.next_of_many.ensures) c.entry_of-2.ensures
 
 pub entry_of-requires : goal.entry_of-requires
 entry_of-requires c = found-among _ _ _ (showing (bit_or IS_OVER FITS)) _ c.requires.lives (found-showing _ _ _ _ (bit_or IS_OVER FITS) c.next.result c.requires.noted c.next.ensures)

@@ -18,17 +18,17 @@ returns-then-not-is_stopping c =
 
 pub returns-then-is_some : goal.returns-then-is_some
 returns-then-is_some c =
-    next-released _ _ _ _ c.next-then-is_some.result _ c.requires.scene.lives (showing FREES) (ap (λ z. z || is_stopped c.args.state) (sym c.if-not-is_stopping.ensures))
+    next-released _ _ _ _ c.next-found.result _ c.requires.scene.lives (showing FREES) (ap (λ z. z || is_stopped c.args.state) (sym c.if-not-is_stopping.ensures))
     (λ t b q k a d. tells-freeing b
     (ap (λ z. is_stopping z && is_quiet b.rest) q.2 ∙ ap (λ z. z && is_quiet b.rest) (sym c.if-not-is_stopping.ensures)
-    ∙ ap is_quiet q.3 ∙ sym (quiet-told _ _ _ _ true c.if-is_some.ensures (found _ _ _ _ any_live _ c.next.result said-live c.requires.scene.noted c.next.ensures) t q.0)) k a)
-    (found-showing _ _ _ _ FREES c.next-then-is_some.result c.requires.scene.noted c.next-then-is_some.ensures) c.release_of-then-is_some.ensures
+    ∙ ap is_quiet q.3 ∙ sym (quiet-told _ _ _ _ true c.if-is_some.ensures (found _ _ _ _ any_live _ c.next_of_many.result said-live c.requires.scene.noted c.next_of_many.ensures) t q.0)) k a)
+    (found-showing _ _ _ _ FREES c.next-found.result c.requires.scene.noted c.next-found.ensures) c.release_of-then-is_some.ensures
 
 pub returns : goal.returns
 returns c =
     next-released _ _ _ _ c.next_giving.result _ c.requires.scene.lives gives_back (ap (λ z. z || is_stopped c.args.state) (sym c.if-not-is_stopping.ensures))
     (λ t b q k a d. tells-releasing b (ap is_running q.2 ∙ stopping-others c.args.state (sym c.if-not-is_stopping.ensures)) (ap is_stopping q.2 ∙ sym c.if-not-is_stopping.ensures)
-    (ap is_quiet q.3 ∙ sym (quiet-told _ _ _ _ false c.if-is_some.ensures (found _ _ _ _ any_live _ c.next.result said-live c.requires.scene.noted c.next.ensures) t q.0)) k a)
+    (ap is_quiet q.3 ∙ sym (quiet-told _ _ _ _ false c.if-is_some.ensures (found _ _ _ _ any_live _ c.next_of_many.result said-live c.requires.scene.noted c.next_of_many.ensures) t q.0)) k a)
     (found-giving _ _ _ _ c.requires.scene.noted _ c.next_giving.ensures) c.release_of-2.ensures
 
 pub next_giving-requires : goal.next_giving-requires
