@@ -1,6 +1,6 @@
 use Rattle.std.proofs.Common.{sym, subst}
 use Rattle.batch_chart.specs.Seen.{machine_move}
-use Rattle.batch_engine.{specs.declared.batch.Batch.Batch, specs.Steps.IsNext, specs.View.EngineView, specs.View.model_batch, specs.View.tree_of}
+use Rattle.batch_engine.specs.{declared.batch.Batch.Batch, Steps.IsNext, View.EngineView, View.model_batch, View.tree_of}
 use Rattle.batch_engine.proofs.control.Control.make_own.Goals as goal
 use Rattle.batch_recipe.proofs.ValueUpdates.{same-at}
 
