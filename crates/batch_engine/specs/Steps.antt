@@ -197,4 +197,3 @@ pub record IsLineAt (v : EngineView) (i : ℕ) (m : Move) (line : Line) : Type 0
   pub batch : Batch
   pub at : slice_get v.batches i ≡ Some batch
   pub tells : Tells v batch m line
-
