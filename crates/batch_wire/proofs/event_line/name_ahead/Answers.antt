@@ -11,10 +11,10 @@ some_of xs (suc n) e = omega arith
 pub returns-clause-ahead : goal.returns-clause-ahead
 returns-clause-ahead c =
     let text = c.args.text.now in
-    let len = c.in-Some.len in
-    let read = c.in-Some.ensures.read in
-    let spelled = subst (λ word. is_name_spelling word ≡ true) read c.in-Some.ensures.valid.spelled in
+    let len = c.in_ok-name.len in
+    let read = c.in_ok-name.ensures.read in
+    let spelled = subst (λ word. is_name_spelling word ≡ true) read c.in_ok-name.ensures.valid.spelled in
     let space : get_or text len 0 ≡ 32 = search rules in
-    name_ahead text len (some_of text len spelled) c.in-Some.ensures.within (and_parts (is_ascii_alphabetic (slice_index (take len text) 0)) _ spelled).1 space
+    name_ahead text len (some_of text len spelled) c.in_ok-name.ensures.within (and_parts (is_ascii_alphabetic (slice_index (take len text) 0)) _ spelled).1 space
     ∙ ap (λ word. word ∷ event_words (drop (len + 1) text)) (sym read)
-    ∙ ap (λ rest. c.in-Some.name ∷ event_words rest) (sym (take_rest text (len + 1)))
+    ∙ ap (λ rest. c.in_ok-name.name ∷ event_words rest) (sym (take_rest text (len + 1)))
