@@ -6,7 +6,7 @@ use Rattle.batch_matrix.specs.{declared.state.State.State, declared.state.State.
 use Rattle.batch_model.specs.{ActStates.gravity, ActStates.gravest, Lists.Has}
 use Rattle.batch_chart.{specs.Showing.is_among, proofs.MoveKinds.less, proofs.MoveKinds.not-less}
 
-same-is : (y x : State) → same_state y x ≡ true → y ≡ x
+pub same-is : (y x : State) → same_state y x ≡ true → y ≡ x
 same-is y x e = same_true the_type tt y x e
 
 among-has : (l : List State) (x : State) → is_among l x ≡ true → Has l x

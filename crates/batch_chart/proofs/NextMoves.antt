@@ -7,7 +7,7 @@ use Rattle.batch_recipe.specs.Nodes as nodes
 use Rattle.batch_recipe.specs.{Tree.Step, Tree.Task, Tree.Tree, Tree.act, declared.entry.Entry.Entry, declared.recipe.Recipe.Recipe}
 use Rattle.batch_model.specs.{Lists.Has, Plant.Batch, Plant.size_out_of_range, Plant.held_in, Plant.phase_states, Rest.Rest, Rest.live, Rest.is_done, Rest.acts, Settled.IsAdvanced, Moves.command_passed_on, Moves.is_running, Moves.is_stopping, Moves.is_stopped, Moves.is_empty, Moves.is_quiet, Moves.is_reached, Moves.state_move}
 use Rattle.batch_model.specs.Moves as machine
-use Rattle.batch_chart.{specs.declared.node.Kind.Kind, specs.declared.stage.Stage.Stage, specs.declared.chart_move.Move.Move, specs.Stages.stage_at, specs.Stages.is_begun, specs.Meaning.meaning, specs.Meaning.meaning_below, specs.Meaning.act_as, specs.Outlined.kind_at, specs.Nexts.first_of, specs.Numbered.numbered, specs.NodesOf.node_at, specs.NodesOf.place_at, specs.NodesOf.step_at, specs.NodesOf.task_at, specs.NodesOf.tree_step, specs.NodesOf.tree_task, specs.OwnMoves.own_move, specs.OwnMoves.is_kind, specs.Seen.machine_move, specs.Running.IsLaid, specs.Running.IsAlive, specs.Running.SomeLives, specs.Running.Allows, specs.Nexts.IsAmong, specs.Nexts.IsFoundFirst, specs.Nexts.IsReachedState, specs.Nexts.IsNextOf, specs.Nexts.IsNextState, specs.Nexts.is_phase_kind, specs.Nexts.entered, specs.Nexts.releasing, specs.Nexts.handing, specs.Nexts.last_held, specs.Nexts.held_at, specs.Nexts.made_of, specs.Nexts.IsHanded, specs.Passing.IsBatchOf, specs.Passing.PassesTo, specs.declared.sign.TheConstants.HOLDS, specs.declared.sign.TheConstants.IS_ACT, specs.declared.sign.TheConstants.LACKS, proofs.KnownTests.chosen-true, proofs.KnownTests.chosen-false, proofs.NumberedActs.numbered-acts, proofs.NumberedActs.nothing, proofs.NumberedActs.nothing-any, proofs.NumberedActs.nothing-holds, proofs.ChartChange.Fits, proofs.ChartChange.act-fits, proofs.ChartChange.entry-at, proofs.ChartChange.acts-advanced, proofs.NodesAtNumbers.node-got, proofs.MoveKinds.kind_in, proofs.MoveKinds.empty-done, proofs.FirstMoves.picked, proofs.FirstMoves.picked-none, proofs.FirstMoves.seen_at, proofs.FirstMoves.tells-send, proofs.FirstMoves.tells-asking, proofs.FirstMoves.suits-send, proofs.FirstMoves.suits-releasing, proofs.FirstMoves.suits-handing, proofs.FirstMoves.suits-entering, proofs.FirstMoves.suits-asking, proofs.SignTests.showing, proofs.SignTests.of_states, proofs.SignTests.any_live, proofs.SignTests.live_but}
+use Rattle.batch_chart.{specs.declared.node.Kind.Kind, specs.declared.stage.Stage.Stage, specs.declared.chart_move.Move.Move, specs.Stages.stage_at, specs.Stages.is_begun, specs.Meaning.meaning, specs.Meaning.meaning_below, specs.Meaning.act_as, specs.Outlined.kind_at, specs.Nexts.first_of, specs.Numbered.numbered, specs.NodesOf.node_at, specs.NodesOf.place_at, specs.NodesOf.step_at, specs.NodesOf.task_at, specs.NodesOf.tree_step, specs.NodesOf.tree_task, specs.OwnMoves.own_move, specs.OwnMoves.is_kind, specs.Seen.machine_move, specs.Running.IsLaid, specs.Running.IsAlive, specs.Running.SomeLives, specs.Running.Allows, specs.Nexts.IsAmong, specs.Nexts.IsFoundFirst, specs.Nexts.IsReachedState, specs.Nexts.IsNextOf, specs.Nexts.IsNextState, specs.Nexts.is_phase_kind, specs.Nexts.entered, specs.Nexts.releasing, specs.Nexts.handing, specs.Nexts.last_held, specs.Nexts.held_at, specs.Nexts.made_of, specs.Nexts.IsHanded, specs.Passing.IsBatchOf, specs.Passing.PassesTo, specs.declared.sign.TheConstants.HOLDS, specs.declared.sign.TheConstants.IS_ACT, specs.declared.sign.TheConstants.LACKS, proofs.KnownTests.chosen-true, proofs.KnownTests.chosen-false, proofs.NumberedActs.numbered-acts, proofs.NumberedActs.nothing, proofs.NumberedActs.nothing-any, proofs.NumberedActs.nothing-holds, proofs.ChartChange.Fits, proofs.ChartChange.act-fits, proofs.ChartChange.entry-at, proofs.ChartChange.acts-advanced, proofs.NodesAtNumbers.node-got, proofs.MoveKinds.kind_in, proofs.MoveKinds.empty-done, proofs.FirstMoves.picked, proofs.FirstMoves.picked-none, proofs.FirstMoves.seen_at, proofs.FirstMoves.tells-send, proofs.FirstMoves.tells-asking, proofs.FirstMoves.suits-send, proofs.FirstMoves.suits-releasing, proofs.FirstMoves.suits-handing, proofs.FirstMoves.suits-entering, proofs.FirstMoves.suits-asking, proofs.SignTests.showing, proofs.SignTests.of_states, proofs.SignTests.any_live, proofs.SignTests.live_but, proofs.GravestState.same-is}
 use Rattle.batch_chart.specs.declared.chart_move.Move.TheVariants as move
 
 -- the first that passes a test is among them
@@ -228,17 +228,17 @@ unstopped-reached : (x : State) (r : Rest) → is_stopped x ≡ false
 unstopped-reached x r e =
     chosen-false (is_stopped x) (is_quiet r && is_empty (held_in r)) (elim (same_state x state.Complete) as (λ _. Bool) [ true ↦ is_done r | false ↦ list_all (λ now. same_state now x) (phase_states (acts r)) ]) e
 
-module _ (ns : List Entry) (doc : Recipe) (xs : List Stage) (x : State) (o : Option ℕ) (b : Bool) (e : is_some o ≡ not b) (unstopped : is_stopped x ≡ false) where
+module _ (ns : List Entry) (doc : Recipe) (xs : List Stage) (x : State) (o : Option ℕ) (b : Bool) (e : is_some o ≡ not b) where
   pub reached-complete : same_state x state.Complete ≡ true → IsFoundFirst ns doc xs (showing IS_ACT) o → IsReachedState ns doc xs x b
   reached-complete f h =
       record {
         means = λ t laid alive. (let r = meaning t 0 xs in
             told-nothing o b e ∙ ap nothing (h.means t laid) ∙ nothing-any t 0 xs ∙ sym (empty-done r alive.advanced)
-            ∙ sym (unstopped-reached x r unstopped ∙ chosen-true (same_state x state.Complete) (is_done r) (list_all (λ now. same_state now x) (phase_states (acts r))) f));
+            ∙ sym (unstopped-reached x r (ap is_stopped (same-is x state.Complete f)) ∙ chosen-true (same_state x state.Complete) (is_done r) (list_all (λ now. same_state now x) (phase_states (acts r))) f));
       }
 
-  pub reached-in : same_state x state.Complete ≡ false → IsFoundFirst ns doc xs (live_but x) o → IsReachedState ns doc xs x b
-  reached-in f h =
+  pub reached-in : is_stopped x ≡ false → same_state x state.Complete ≡ false → IsFoundFirst ns doc xs (live_but x) o → IsReachedState ns doc xs x b
+  reached-in unstopped f h =
       record {
         means = λ t laid alive. (let r = meaning t 0 xs in
             told-nothing o b e ∙ ap nothing (h.means t laid) ∙ all-live x (numbered t 0 xs)

@@ -1,5 +1,5 @@
 //! The lines of moves.
-ghost use Rattle.std.specs.Prelude.{◌≡◌, ◌≤◌, length};
+ghost use Rattle.std.specs.Prelude.{◌≡◌, ◌<◌, ◌≤◌, length};
 ghost use Rattle.std.specs.List.{zip};
 ghost use Rattle.batch_chart.specs.declared.chart_move.Move.TheVariants as Moves;
 ghost use Rattle.batch_model.specs.Moves.{handed_values};
@@ -19,23 +19,7 @@ use batch_recipe::{Kind, LabelTable, MAX_VALUES, Recipe, Values, Work, act_at};
 use batch_set::LinkedRecipe;
 use batch_text::Name;
 
-/// The values of these names, each looked for at its position first; the entries after them mean nothing.
-#[inline(always)]
-fn values_of(names: &[Name], positions: [usize; MAX_VALUES], values: &Values) -> [u64; MAX_VALUES]
-    requires { length names.now ≤ MAX_VALUES }
-    ensures { zip names.now result ≡ handed_values values.now names.now }
-{
-    let mut handed = [0; MAX_VALUES];
-    for index in 0..names.len() {
-        handed[index] = values
-            .value_from(positions[index], &names[index])
-            .unwrap_or(0);
-    }
-    handed
-}
-
 /// The positions at which a batch has the values that the phase of an act of this kind is handed, as hints.
-#[inline(always)]
 fn handed_positions(own: &LinkedRecipe, kind: Kind) -> [usize; MAX_VALUES] {
     match kind {
         Kind::Act(LabelTable::Phases, step) => {
@@ -45,19 +29,38 @@ fn handed_positions(own: &LinkedRecipe, kind: Kind) -> [usize; MAX_VALUES] {
     }
 }
 
-/// The values that the phase of a phase step is handed; the entries after them mean nothing.
+/// The values of these names, which the phase of an act of this kind is handed; the entries after them mean nothing. Each is looked for at
+/// its position first.
+#[inline(never)]
+fn values_of(names: &[Name], own: &LinkedRecipe, kind: Kind, values: &Values) -> [u64; MAX_VALUES]
+    requires { length names.now ≤ MAX_VALUES }
+    ensures { zip names.now result ≡ handed_values values.now names.now }
+{
+    let positions = handed_positions(own, kind);
+    let mut handed = [0; MAX_VALUES];
+    for index in 0..names.len() {
+        handed[index] = values
+            .value_from(positions[index], &names[index])
+            .unwrap_or(0);
+    }
+    handed
+}
+
+/// The values that the phase of a phase step is handed; the entries after them mean nothing. Most phases are handed none.
 #[inline(always)]
-fn handed(
-    recipe: &Recipe,
-    positions: [usize; MAX_VALUES],
-    node: u16,
-    values: &Values,
-) -> [u64; MAX_VALUES]
+fn handed(recipe: &Recipe, own: &LinkedRecipe, node: u16, values: &Values) -> [u64; MAX_VALUES]
+    requires { node < length recipe.now.outline.entries.items }
     ensures { zip (handed_of (node_of node recipe.now)) result ≡ handed_values values.now (handed_of (node_of node recipe.now)) }
 {
     match act_at(recipe, node) {
         Some(act) => match &act.work {
-            Work::Runs { values: names, .. } => values_of(names, positions, values),
+            Work::Runs { values: names, .. } => {
+                if names.is_empty() {
+                    return [0; MAX_VALUES];
+                }
+                let entry = &recipe.outline.entries[usize::from(node)];
+                values_of(names, own, entry.kind, values)
+            }
             Work::Follows(_) => [0; MAX_VALUES],
         },
         None => [0; MAX_VALUES],
@@ -136,15 +139,13 @@ impl Control {
         let set = self.cleared.linked();
         let own = &set.recipes[usize::from(batch.recipe)];
         let recipe = self.cleared.recipe(batch.recipe);
-        let entry = &recipe.outline.entries[usize::from(node)];
-        let positions = handed_positions(own, entry.kind);
         Line::Start {
             batch: batch.number,
             recipe: batch.recipe,
             node,
             unit,
             phase,
-            values: handed(recipe, positions, node, &batch.values),
+            values: handed(recipe, own, node, &batch.values),
         }
     }
 

@@ -29,6 +29,7 @@ pub enum ReportOutcome {
 
 /// The outcome of the report for a live phase in this state. None where the phase doesn't accept it and so stays as it is.
 // claim: cells of reports
+#[inline(always)]
 pub fn after_report(state: State, report: Report) -> Option<ReportOutcome>
     ensures { result ≡ after_report state report }
 {

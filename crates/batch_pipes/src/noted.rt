@@ -53,9 +53,13 @@ impl<W: Write> Write for Noted<W> {
     ghost contents = { λ noted. W.contents noted.stream };
 
     fn write(&mut self, bytes: &[u8]) -> io::Result<usize> {
-        let result = self.stream.write(bytes);
-        self.record_failure(&result);
-        result
+        match self.stream.write(bytes) {
+            Ok(count) => Ok(count),
+            Err(error) => {
+                self.failure = Some(error);
+                Err(error)
+            }
+        }
     }
 
     fn flush(&mut self) -> io::Result<()> {

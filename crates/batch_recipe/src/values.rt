@@ -60,6 +60,7 @@ impl Values {
 
     /// Sets each of these outputs, as a report names them.
     // claim: outputs set
+    #[inline(always)]
     pub fn set_outputs(&mut self, outputs: &[(Name, u64)])
         ensures { self.new ≡ with_values outputs.now self.old }
     {
@@ -95,6 +96,7 @@ fn position_from_end(entries: &[(Name, u64)], name: &Name) -> Option<usize>
 /// Whether a report may set these outputs of a recipe: each is one of the names, none is named twice, and no value is above
 /// `MAX_VALUE`.
 // claim: outputs allowed
+#[inline(always)]
 pub fn are_outputs(names: &[Name], outputs: &[(Name, u64)]) -> bool
     ensures { result ≡ are_outputs names.now outputs.now }
 {

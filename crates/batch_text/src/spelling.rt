@@ -98,7 +98,9 @@ impl Spelling {
     {
         match self {
             Spelling::Short { len, bytes } => {
-                text[at..at + MAX_SHORT_LEN].copy_from_slice(bytes);
+                // A copy shares no bytes with the text, so the compiler moves it without a test.
+                let room = *bytes;
+                text[at..at + MAX_SHORT_LEN].copy_from_slice(&room);
                 at + *len as usize
             }
             Spelling::Long { len, bytes } => {

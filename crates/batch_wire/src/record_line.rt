@@ -105,7 +105,7 @@ fn add_site<W: Write>(
             };
             add_line(out, cleared, told, room, writer)
         }
-        None => write_long(*out, cleared, room, writer),
+        None => write_long(out, cleared, room, writer),
     }
 }
 
@@ -125,7 +125,7 @@ fn add_line<W: Write>(
     let start = room.len;
     match put_out(&mut room.bytes, start, out, cleared, told) {
         Some(end) => pass_full(end, room, writer),
-        None => write_rare(*out, cleared, told, room, writer),
+        None => write_rare_out(out, cleared, told, room, writer),
     }
 }
 
@@ -153,17 +153,36 @@ fn write_room<W: Write>(room: &mut LineRoom, writer: &mut W) -> Result<(), Write
     write_all(writer, &room.bytes[..end])
 }
 
+/// The same as `write_rare`. The copy of the out is made here, and not for each line.
+#[inline(always)]
+fn write_rare_out<W: Write>(
+    out: &Out,
+    cleared: &Cleared,
+    told: ToldSite<'_>,
+    room: &mut LineRoom,
+    writer: &mut W,
+) -> Result<(), WriteFault>
+    requires order { (told.start ≤ told.end) × (told.end ≤ 408) }
+    requires told { drop told.start (take told.end told.text.now) ≡ told_by_out (out_of cleared.now out.now) }
+    ensures none { waiting_in room.new ≡ [] }
+    ensures written { Writes (W.contents writer.old) (W.contents writer.new) result (waiting_in room.old ++ out_text (out_of cleared.now out.now)) }
+{
+    write_rare(*out, cleared, told, room, writer)
+}
+
 /// Writes the text that waits, and then the line of an out whose place isn't cached.
-#[inline(never)]
+#[inline(always)]
 fn write_long<W: Write>(
-    out: Out,
+    out: &Out,
     cleared: &Cleared,
     room: &mut LineRoom,
     writer: &mut W,
 ) -> Result<(), WriteFault>
     ensures none { waiting_in room.new ≡ [] }
-    ensures written { Writes (W.contents writer.old) (W.contents writer.new) result (waiting_in room.old ++ out_text (out_of cleared.now out)) }
+    ensures written { Writes (W.contents writer.old) (W.contents writer.new) result (waiting_in room.old ++ out_text (out_of cleared.now out.now)) }
 {
+    // The copy is what a call needs in memory, so that the out itself needs none.
+    let out = *out;
     write_room(room, writer)?;
     write_out(&out, cleared, writer)
 }

@@ -1,5 +1,5 @@
-use Rattle.std.proofs.Common.{◌≡◌, ◌≤◌, refl, sym, ◌∙◌, ap, subst, List, [], length, Some, None, true, false}
-use Rattle.std.specs.List.{zip}
+use Rattle.std.proofs.Common.{rules, ◌≡◌, ◌≤◌, refl, sym, ◌∙◌, ap, subst, List, [], length, Some, None, true, false}
+use Rattle.std.{specs.List.zip, proofs.lemmas.List.nil_from_length}
 use Rattle.batch_recipe.specs.{Conditions.Name, declared.act.TheConstants.MAX_VALUES}
 use Rattle.batch_model.specs.Moves.{handed_values}
 use Rattle.batch_engine.{specs.Names.handed_of, specs.Names.node_of, proofs.HandedValues.handed_with, proofs.HandedValues.told-handed, proofs.HandedValues.told-few}
@@ -10,8 +10,15 @@ values_of-requires c =
     subst (λ (ns : List Name). length ns ≤ MAX_VALUES) (sym c.deref.ensures.value)
     (told-few c.args.recipe.now c.args.node c.in-Some.act.now _ _ _ c.in-Some.ensures.act (λ h. (let bad : true ≡ false = c.in-Some.ensures.past h in cc)) c.in-Runs.is)
 
-pub returns-in-Runs : goal.returns-in-Runs
-returns-in-Runs c =
+pub returns-then-is_empty : goal.returns-then-is_empty
+returns-then-is_empty c =
+    let e : handed_of (node_of c.args.node c.args.recipe.now) ≡ [] =
+    told-handed c.args.recipe.now c.args.node (Some c.in-Some.act.now) c.in-Some.ensures.act (λ h. absurd (let bad : true ≡ false = c.in-Some.ensures.past h in cc))
+    ∙ ap handed_with c.in-Runs.is ∙ nil_from_length c.in-Runs.names.items (search rules) in
+    rw e refl
+
+pub returns-else-is_empty : goal.returns-else-is_empty
+returns-else-is_empty c =
     subst (λ (ns : List Name). zip ns c.values_of.result ≡ handed_values c.args.values.now ns)
     (c.deref.ensures.value ∙ sym (ap handed_with c.in-Runs.is)
     ∙ sym (told-handed c.args.recipe.now c.args.node (Some c.in-Some.act.now) c.in-Some.ensures.act (λ h. absurd (let bad : true ≡ false = c.in-Some.ensures.past h in cc))))

@@ -23,9 +23,10 @@ returns-clause-put c =
     let within : c.args.at ≤ length c.args.text.now = omega (arith, c.requires.room) in
     elim c.if-len-le-BLOCK.branch [
       | then-len-le-BLOCK+then-start-le-MAX_PLACE_END w ↦
-          let few : told.end - told.start ≤ length w.copy_from_slice.new.self = search rules in
+          let put = w.copy_from_slice-then-start-le-MAX_PLACE_END in
+          let few : told.end - told.start ≤ length put.new.self = search rules in
           ap (take (c.args.at + (told.end - told.start))) w.text-is
-          ∙ part_put c.args.at told.start told.end _ c.args.text.now w.copy_from_slice.new.self told.text.now _ within c.requires.order.0 (omega arith) w.copy_from_slice.ensures.after few
+          ∙ part_put c.args.at told.start told.end _ c.args.text.now put.new.self told.text.now _ within c.requires.order.0 (omega arith) (put.ensures.after ∙ w.copy_from_slice.ensures.after) few
       | else-len-le-BLOCK w ↦
           let few : told.end - told.start ≤ length w.copy_from_slice-else-len-le-BLOCK.new.self = search rules in
           ap (take (c.args.at + (told.end - told.start))) w.text-is

@@ -10,10 +10,10 @@ index-own-requires c =
 pub recipe-recipe-requires : goal.recipe-recipe-requires
 recipe-recipe-requires c = chart-within c.self.view_is (record { kept = c.requires.kept; at = c.requires.at })
 
-pub index-entry-requires : goal.index-entry-requires
-index-entry-requires c =
+pub handed-requires : goal.handed-requires
+handed-requires c =
     let r : IsRead c.args.self.now c.requires.index c.args.batch.now = record { kept = c.requires.kept; at = c.requires.at } in
-    omega (arith, c.from-2.ensures, entry-within r (got-chart c.args.self.now _ c.args.batch.now.recipe c.recipe-recipe.result.now c.self.view_is c.recipe-recipe.ensures) c.requires.few)
+    omega (arith, entry-within r (got-chart c.args.self.now _ c.args.batch.now.recipe c.recipe-recipe.result.now c.self.view_is c.recipe-recipe.ensures) c.requires.few)
 
 pub returns : goal.returns
 returns c =
