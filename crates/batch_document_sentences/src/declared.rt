@@ -48,39 +48,18 @@ pub(crate) fn names_of<'a>(
         .collect(alloc)
 }
 
-/// A name that a chart, or a list of values, has.
-#[derive(Clone, Copy)]
-pub(crate) struct Reference<'a> {
-    /// The key of the chart or the list.
-    pub(crate) key: &'static str,
-    pub(crate) name: &'a str,
-    /// The kinds of the tables that it may name.
-    pub(crate) kinds: &'static [TableKind],
-}
-
 impl<'a> Entry<'a> {
     /// The first name of the table's text or list under this key that no table of these kinds has.
-    pub(crate) fn undeclared_at(self, key: &str, kinds: &[TableKind]) -> Option<&'a str> {
-        list_at(self.table, key)
-            .iter()
-            .filter_map(Value::as_str)
-            .find(|name| first_named(self.document, kinds, name).is_none())
+    pub(crate) fn undeclared_at(self, key: &str, kinds: &[TableKind]) -> &'a str {
+        let mut names = list_at(self.table, key).iter().filter_map(Value::as_str);
+        let undeclared = names.find(|name| first_named(self.document, kinds, name).is_none());
+        undeclared.unwrap_or("")
     }
 
-    /// The first name of the table's chart, or of its values, that isn't declared as the value or act that it is to name.
-    pub(crate) fn undeclared_name(self) -> Option<Reference<'a>> {
-        match text_at(self.table, "chart") {
-            Some(chart) => self.undeclared_in(chart),
-            None => Some(Reference {
-                key: "values",
-                name: self.undeclared_at("values", &VALUES)?,
-                kinds: &VALUES,
-            }),
-        }
-    }
-
-    /// The first name of the table's chart that is no value in a condition, or else names no table of the kind below.
-    fn undeclared_in(self, chart: &'a str) -> Option<Reference<'a>> {
+    /// The first name of the table's chart that is declared as no table of the kinds that it may name, and these: of values in a
+    /// condition, and else of the acts below.
+    pub(crate) fn undeclared_in_chart(self) -> Option<(&'a str, &'static [TableKind])> {
+        let chart = self.text_at("chart");
         let mut rest = chart;
         for _ in 0..chart.len() {
             let (before, name, behind) = word_in(rest)?;
@@ -90,11 +69,7 @@ impl<'a> Entry<'a> {
                 kinds_below(self.spot.kind)
             };
             if is_reference(name) && first_named(self.document, kinds, name).is_none() {
-                return Some(Reference {
-                    key: "chart",
-                    name,
-                    kinds,
-                });
+                return Some((name, kinds));
             }
             rest = behind;
         }

@@ -1,46 +1,44 @@
 //! The faults in the names that a table declares or uses.
-use crate::declared::{Reference, first_named, listed_twice, names_of};
+use crate::declared::{first_named, listed_twice, names_of};
 use crate::documents::table_said;
 use crate::entries::Wrong;
 use crate::entry::Entry;
-use crate::kinds::{OF_RECIPES, namesakes_of};
+use crate::kinds::{OF_RECIPES, VALUES, kinds_below, namesakes_of};
 use crate::lines::line_of;
-use batch_reader::{Spot, TableKind};
+use batch_reader::TableKind;
 use batch_wording::meant_or_known;
 use std::alloc::AllocError;
 
-/// The keys whose texts name tables of the document, and the kind of these. The unit is that of a module: a unit procedure's stands
-/// in the cell, and one with a fault in its names has it at another key.
-const NAMING: [(&str, TableKind); 4] = [
-    ("reports", TableKind::Output),
-    ("role", TableKind::Role),
-    ("reserves", TableKind::UnitProcedure),
-    ("unit", TableKind::Unit),
-];
-
 impl Entry<'_> {
-    /// Says which name of the table is declared nowhere.
-    pub(crate) fn undeclared(self) -> Result<Wrong<'static>, AllocError> {
-        if self.spot.kind == TableKind::Desk {
-            let unit = self.text_at("unit");
-            return Wrong::with(
-                "unit",
-                format!(in self.alloc; "the cell has no unit `{unit}`"),
-            );
-        }
-        if let Some(reference) = self.undeclared_name() {
-            return Wrong::with(reference.key, self.reference_said(reference));
-        }
-        for (key, kind) in NAMING {
-            if let Some(name) = self.undeclared_at(key, &[kind]) {
-                return Wrong::with(key, self.undeclared_said(kind, name));
+    /// Says which name at the key of the table is declared nowhere.
+    pub(crate) fn undeclared(self, key: &'static str) -> Result<Wrong<'static>, AllocError> {
+        let said = match key {
+            "chart" => {
+                let of_acts = kinds_below(self.spot.kind);
+                let (name, kinds) = self.undeclared_in_chart().unwrap_or(("", of_acts));
+                self.reference_said(key, name, kinds)
             }
-        }
-        Wrong::from_str(self.alloc, "chart", "a label or a name is declared nowhere")
+            "values" => self.reference_said(key, self.undeclared_at(key, &VALUES), &VALUES),
+            "reports" => self.undeclared_said(key, TableKind::Output),
+            "role" => self.undeclared_said(key, TableKind::Role),
+            "reserves" => self.undeclared_said(key, TableKind::UnitProcedure),
+            _ => self.no_unit_said(key),
+        };
+        Wrong::with(key, said)
     }
 
-    /// Says that no table of the kind has the name, and which tables have it, or which name may have been meant.
-    fn undeclared_said(self, kind: TableKind, name: &str) -> Result<String, AllocError> {
+    /// Says that the unit at the key is none of the cell's: that of a desk, whose document has no units, or of a module.
+    fn no_unit_said(self, key: &str) -> Result<String, AllocError> {
+        if self.spot.kind != TableKind::Desk {
+            return self.undeclared_said(key, TableKind::Unit);
+        }
+        let unit = self.text_at(key);
+        format!(in self.alloc; "the cell has no unit `{unit}`")
+    }
+
+    /// Says that no table of the kind has a name at the key, and which tables have it, or which name may have been meant.
+    fn undeclared_said(self, key: &str, kind: TableKind) -> Result<String, AllocError> {
+        let name = self.undeclared_at(key, &[kind]);
         let word = kind.word();
         let said = match first_named(self.document, &OF_RECIPES, name) {
             Some(other) => {
@@ -60,8 +58,12 @@ impl Entry<'_> {
     }
 
     /// Says that the name of a chart, or of a list of values, is declared nowhere, or as something else.
-    fn reference_said(self, reference: Reference<'_>) -> Result<String, AllocError> {
-        let Reference { key, name, kinds } = reference;
+    fn reference_said(
+        self,
+        key: &str,
+        name: &str,
+        kinds: &[TableKind],
+    ) -> Result<String, AllocError> {
         let Some(other) = first_named(self.document, &OF_RECIPES, name) else {
             let meant = self.meant_said(name, kinds)?;
             return format!(in self.alloc; "`{name}` is declared nowhere{meant}");
@@ -86,34 +88,24 @@ impl Entry<'_> {
         meant_or_known(self.alloc, name, names_of(self.alloc, self.document, kinds))
     }
 
-    /// Says which name of the table occurs twice. As in the reader, the names of tables come before those in lists.
-    pub(crate) fn duplicate(self) -> Result<Wrong<'static>, AllocError> {
-        let name = self.text_at("name");
-        match first_named(self.document, namesakes_of(&self.spot.kind), name) {
-            Some(first) if first != self.spot => {
-                return Wrong::with("name", self.namesake_said(name, first));
+    /// Says which name at the key of the table occurs twice.
+    pub(crate) fn duplicate(self, key: &'static str) -> Result<Wrong<'static>, AllocError> {
+        let said = match key {
+            "name" => self.namesake_said(),
+            "phases" => self.offered_said(),
+            _ => {
+                let name = listed_twice(self.table, key).unwrap_or("");
+                format!(in self.alloc; "`{name}` stands twice in `{key}`")
             }
-            _ => {}
-        }
-        if let Some(name) = listed_twice(self.table, "reports") {
-            return self.twice("reports", name);
-        }
-        match listed_twice(self.table, "reserves") {
-            Some(name) => self.twice("reserves", name),
-            None => Wrong::with("phases", self.offered_said()),
-        }
+        };
+        Wrong::with(key, said)
     }
 
-    /// Says that the list under the key has the name twice.
-    fn twice(self, key: &'static str, name: &str) -> Result<Wrong<'static>, AllocError> {
-        Wrong::with(
-            key,
-            format!(in self.alloc; "`{name}` stands twice in `{key}`"),
-        )
-    }
-
-    /// Says that the table at the spot has the name already.
-    fn namesake_said(self, name: &str, first: Spot) -> Result<String, AllocError> {
+    /// Says which table has the name of this one already.
+    fn namesake_said(self) -> Result<String, AllocError> {
+        let name = self.text_at("name");
+        let namesakes = namesakes_of(&self.spot.kind);
+        let first = first_named(self.document, namesakes, name).unwrap_or(self.spot);
         let table = table_said(self.alloc, first)?;
         match line_of(self.text, self.document, first, "name") {
             Some(line) => format!(in self.alloc;
@@ -133,11 +125,9 @@ impl Entry<'_> {
                 "the phase `{phase}` is offered twice by the unit `{unit}`: it stands twice in this module"
             );
         }
-        match self.offered_before() {
-            Some((phase, other)) => format!(in self.alloc;
-                "the phase `{phase}` is offered twice by the unit `{unit}`: its module `{other}` has it already"
-            ),
-            None => String::from_str(self.alloc, "a name stands twice"),
-        }
+        let (phase, other) = self.offered_before().unwrap_or(("", ""));
+        format!(in self.alloc;
+            "the phase `{phase}` is offered twice by the unit `{unit}`: its module `{other}` has it already"
+        )
     }
 }

@@ -3,7 +3,7 @@ use Rattle.std.proofs.Common.{◌≡◌, ℕ, true, suc, ◌+◌, ◌<◌, ◌�
 use Rattle.std.{proofs.lemmas.List.take_more, proofs.lemmas.List.take-append-drop, proofs.lemmas.List.take_all, specs.Prelude.slice_range}
 use Rattle.batch_text.specs.{NameText.is_name_byte, declared.name.TheConstants.MAX_NAME_LEN}
 use Rattle.batch_recipe.specs.Diagram.{Diagram}
-use Rattle.batch_reader.{specs.declared.firsts.Firsts.Firsts, specs.ChartGrammar.Offsets, specs.ChartGrammar.IsChart, specs.ChartGrammar.IsWideChart, specs.ChartAnswer.first_of, specs.ChartAnswer.HasFaultAt, specs.ChartAnswer.IsOutsideAt, specs.ChartAnswer.IsRead, specs.ChartMachine.State, specs.ChartMachine.Want, specs.ChartMachine.Frame, specs.ChartMachine.letters, specs.ChartMachine.IsAfter, specs.ChartMachine.IsGood, specs.ChartMachine.start, specs.ChartMachine.step, specs.ChartMachine.steps, specs.ChartMachine.finish, specs.ChartMachine.first_or, proofs.ChartTokens.runs, proofs.ChartCompleteness.one_chart, proofs.ChartCompleteness.no_chart_begins, proofs.ChartCompleteness.no_chart, proofs.ChartCompleteness.runs-steps, proofs.ChartPrefixes.begins_a_chart, proofs.ChartSoundness.sound, proofs.ChartSoundness.step_good, proofs.ChartForms.has_its_pars, proofs.ChartTexts.begun_name, proofs.ChartTexts.one_more, proofs.ChartTexts.range_length}
+use Rattle.batch_reader.{specs.declared.firsts.Firsts.Firsts, specs.ChartGrammar.Offsets, specs.ChartGrammar.IsChart, specs.ChartGrammar.IsWideChart, specs.ChartAnswer.first_of, specs.ChartAnswer.HasFaultAt, specs.ChartAnswer.IsOutsideAt, specs.ChartAnswer.IsRead, specs.ChartMachine.State, specs.ChartMachine.Want, specs.ChartMachine.Frame, specs.ChartMachine.letters, specs.ChartMachine.IsAfter, specs.ChartMachine.start, specs.ChartMachine.step, specs.ChartMachine.steps, specs.ChartMachine.finish, specs.ChartMachine.first_or, proofs.ChartTokens.runs, proofs.ChartCompleteness.one_chart, proofs.ChartCompleteness.no_chart_begins, proofs.ChartCompleteness.no_chart, proofs.ChartCompleteness.runs-steps, proofs.ChartPrefixes.begins_a_chart, proofs.ChartSoundness.sound, proofs.ChartSoundness.step_good, proofs.ChartForms.has_its_pars, proofs.ChartTexts.begun_name, proofs.ChartTexts.one_more, proofs.ChartTexts.range_length}
 
 over : (o : Option State) (s t : List ℕ) (place after : ℕ)
     → ((x : State) → steps (place + 1) (s ++ t) x ≡ option_and_then (steps after t) (steps (place + 1) s x))

@@ -2,22 +2,21 @@
 use Rattle.std.proofs.Common.{◌≡◌, ℕ, ◌+◌, ◌<◌, ◌≤◌, List, [], ◌∷◌, ◌++◌, length, map, take, get_or, nat_eq, refl, sym, ap, subst, ◌∙◌, append-nil, inl, inr, arith, Err, IsErrOf}
 use Rattle.std.{proofs.lemmas.List.take_more, proofs.lemmas.List.Elements.All-append, proofs.lemmas.List.Elements.All-cons, proofs.lemmas.List.Elements.All-nil, proofs.lemmas.Option.slice_get-get_or, specs.Cmp.Lexicographic.pointwise, specs.List.IsDistinct}
 use Rattle.batch_cell.specs.{Equipment.OffersPhasesOnce, Equipment.unit_phases, declared.module.Module.Module, declared.unit.Unit.Unit}
-use Rattle.batch_recipe.specs.{Conditions.Name, Procedure.procedure_nodes, WellFormed.value_names, declared.act.Act.Act, declared.acts.Acts.Acts, declared.outline_fault.OutlineFault.OutlineFault, declared.quantity.Quantity.Quantity, declared.recipe.Recipe.Recipe, declared.recipe.TheConstants.MAX_NODES}
+use Rattle.batch_recipe.specs.{Conditions.Name, Procedure.procedure_nodes, WellFormed.value_names, declared.acts.Acts.Acts, declared.outline_fault.OutlineFault.OutlineFault, declared.quantity.Quantity.Quantity, declared.recipe.Recipe.Recipe, declared.recipe.TheConstants.MAX_NODES}
 use Rattle.batch_recipe.specs.declared.outline_fault.OutlineFault.TheVariants as outline
-use Rattle.batch_reader.specs.{Faults.IsNamingFault, Faults.IsReportFault, Faults.IsRoleFault, Faults.IsToldIn, Faults.IsWrong, Faults.Tells, PartFaults.AreDistinct, PartFaults.FailsFirst, PartFaults.HasReserveFault, PartFaults.HasUndeclaredName, PartFaults.IsPartFault, PartFaults.IsReserveFaultOf, PartFaults.OffersTwice, PartFaults.Parts, SoundTables.outline_fault, declared.fault.EntryFault.EntryFault, declared.fault.EntryFault.TheVariants.Undeclared, declared.fault.EntryFault.TheVariants.Duplicate, declared.fault.Spot.Spot, declared.fault.TableFault.TableFault, declared.fault.TableFault.TheVariants.Entry, declared.fault.TableFault.TheVariants.Memory, declared.fault.TableKind.TableKind}
-use Rattle.batch_reader.specs.declared.fault.TableKind.TheVariants as table_kind
+use Rattle.batch_reader.specs.{Faults.Tells, Faults.TellsIn, PartFaults.AreDistinct, PartFaults.FailsFirst, PartFaults.HasUndeclaredName, PartFaults.IsNamingFault, PartFaults.IsPartFault, PartFaults.IsUndeclaredAt, PartFaults.naming_key, PartFaults.OffersTwice, PartFaults.Parts, SoundTables.outline_fault, declared.fault.EntryFault.EntryFault, declared.fault.Spot.Spot, declared.fault.TableFault.TableFault, declared.fault.TableFault.TheVariants.Entry, declared.fault.TableFault.TheVariants.Memory, declared.fault.TableKind.TableKind}
 
 -- if the fault is known, or also the kind of its table, it is reported of the spot
-pub wrong_told : (what : EntryFault) (P : Spot → Type 0) (Q : Spot → EntryFault → Type 0) → ((spot : Spot) → P spot → Q spot what) → (fault : TableFault)
-    → IsWrong what fault → Tells (λ spot _. P spot) fault → Tells Q fault
-wrong_told what P Q f Memory is_wrong told = tt
-wrong_told what P Q f (Entry here wrong) is_wrong told = subst (Q here) (sym is_wrong) (f here told)
+pub wrong_told : (R P Q : Spot → EntryFault → Type 0) → ((spot : Spot) (wrong : EntryFault) → R spot wrong → P spot wrong → Q spot wrong) → (fault : TableFault)
+    → Tells R fault → Tells P fault → Tells Q fault
+wrong_told R P Q f Memory is_wrong told = tt
+wrong_told R P Q f (Entry here wrong) is_wrong told = f here wrong is_wrong told
 
-pub kind_told : (kind : TableKind) (what : EntryFault) (P : ℕ → Type 0) (Q : Spot → EntryFault → Type 0) → ((entry : ℕ) → P entry → Q (record { kind = kind; entry = entry }) what)
-    → (fault : TableFault) → IsToldIn kind what fault → Tells (λ spot _. P spot.entry) fault → Tells Q fault
-kind_told kind what P Q f Memory is_wrong told = tt
-kind_told kind what P Q f (Entry here wrong) is_wrong told =
-    subst (Q here) (sym is_wrong.1) (subst (λ k. Q (record { kind = k; entry = here.entry }) what) (sym is_wrong.0) (f here.entry told))
+pub kind_told : (kind : TableKind) (Is : EntryFault → Type 0) (P : ℕ → Type 0) (Q : Spot → EntryFault → Type 0)
+    → ((entry : ℕ) (wrong : EntryFault) → Is wrong → P entry → Q (record { kind = kind; entry = entry }) wrong)
+    → (fault : TableFault) → TellsIn kind (λ _. Is) fault → Tells (λ spot _. P spot.entry) fault → Tells Q fault
+kind_told kind Is P Q f Memory is_wrong told = tt
+kind_told kind Is P Q f (Entry here wrong) is_wrong told = subst (λ k. Q (record { kind = k; entry = here.entry }) wrong) (sym is_wrong.0) (f here.entry wrong is_wrong.1 told)
 
 -- names that are the same ones fail at the same table
 fails_along : {X : Type 0} (f g : List X → List Name) → ((front : List X) → f front ≡ g front) → (tables : List X) (entry : ℕ)
@@ -28,12 +27,12 @@ fails_along f g same tables entry h = record {
 }
 
 -- the table of the kind whose name, added to those so far, is one of them
-pub twice_told : {X : Type 0} (f g : List X → List Name) → ((front : List X) → f front ≡ g front) → (tables : List X) (kind : TableKind) (what : EntryFault)
+pub twice_told : {X : Type 0} (f g : List X → List Name) → ((front : List X) → f front ≡ g front) → (tables : List X) (kind : TableKind) (Is : EntryFault → Type 0)
     → (Q : TableKind → ℕ → Type 0) → ((entry : ℕ) → FailsFirst (λ front. AreDistinct (g front)) tables entry → Q kind entry) → (fault : TableFault)
     → ((spot : Spot) (wrong : EntryFault) → fault ≡ Entry spot wrong → FailsFirst (λ front. AreDistinct (f front)) tables spot.entry)
-    → IsToldIn kind what fault → Tells (λ spot _. Q spot.kind spot.entry) fault
-twice_told f g same tables kind what Q stands Memory first told = tt
-twice_told f g same tables kind what Q stands (Entry here wrong) first told =
+    → TellsIn kind (λ _. Is) fault → Tells (λ spot _. Q spot.kind spot.entry) fault
+twice_told f g same tables kind Is Q stands Memory first told = tt
+twice_told f g same tables kind Is Q stands (Entry here wrong) first told =
     subst (λ k. Q k here.entry) (sym told.0) (stands here.entry (fails_along f g same tables here.entry (first here wrong refl)))
 
 -- the names so far are none, or those of one list before
@@ -65,46 +64,16 @@ offers_told units modules i d unit same below (Entry here wrong) first =
 
 -- an act refers to an undeclared name
 pub undeclared_told : (inputs parameters : List Quantity) (outputs : List Name) (acts : Acts) (values : List Name) (fault : TableFault) → values ≡ value_names inputs parameters outputs
-    → IsWrong Undeclared fault → Tells (λ spot _. HasUndeclaredName values acts spot.kind spot.entry) fault
+    → Tells (λ spot. IsUndeclaredAt (naming_key spot.kind)) fault → Tells (λ spot _. HasUndeclaredName values acts spot.kind spot.entry) fault
     → Tells (λ spot. IsNamingFault inputs parameters outputs acts spot.kind spot.entry) fault
 undeclared_told inputs parameters outputs acts values Memory same is_wrong told = tt
 undeclared_told inputs parameters outputs acts values (Entry here wrong) same is_wrong told =
-    subst (IsNamingFault inputs parameters outputs acts here.kind here.entry) (sym is_wrong) (subst (λ names. HasUndeclaredName names acts here.kind here.entry) same told)
-
--- a fault among names is a fault of a recipe's parts
-pub naming_fault : (p : Parts) (kind : TableKind) (entry : ℕ) (wrong : EntryFault) → IsNamingFault p.inputs p.parameters p.outputs p.acts kind entry wrong → IsPartFault p kind entry wrong
-naming_fault p kind entry Undeclared h = inl h
-naming_fault p kind entry Duplicate (inl h) = inl h
-naming_fault p kind entry Duplicate (inr h) = inr (inr (inl h))
-naming_fault p kind entry wrong h = absurd h
-
-pub role_fault : (p : Parts) (kind : TableKind) (entry : ℕ) (wrong : EntryFault) → IsRoleFault p.roles p.acts kind entry wrong → IsPartFault p kind entry wrong
-role_fault p kind entry Undeclared h = inr (inl h)
-role_fault p kind entry Duplicate h = inr (inl h)
-role_fault p kind entry wrong h = absurd h
-
-pub report_fault : (p : Parts) (kind : TableKind) (entry : ℕ) (wrong : EntryFault) → IsReportFault p.outputs p.acts kind entry wrong → IsPartFault p kind entry wrong
-report_fault p kind entry Undeclared h = inr (inr (inl h))
-report_fault p kind entry Duplicate h = inr (inr (inr (inl h)))
-report_fault p kind entry wrong h = absurd h
-
--- the names that acts reserve have no other fault
-no_reserve_fault : (acts : Acts) (kind : TableKind) (entry : ℕ) (wrong : EntryFault) → ((names : List Name) (table : List Act) → IsReserveFaultOf names table entry wrong → ⊥)
-    → HasReserveFault acts kind entry wrong → ⊥
-no_reserve_fault acts table_kind.UnitProcedure entry wrong none h = none _ _ h
-no_reserve_fault acts table_kind.Operation entry wrong none h = none _ _ h
-no_reserve_fault acts table_kind.Phase entry wrong none h = none _ _ h
-no_reserve_fault acts kind entry wrong none h = h
-
-pub reserve_fault : (p : Parts) (kind : TableKind) (entry : ℕ) (wrong : EntryFault) → HasReserveFault p.acts kind entry wrong → IsPartFault p kind entry wrong
-reserve_fault p kind entry Undeclared h = inr (inr (inr h))
-reserve_fault p kind entry Duplicate h = inr (inr (inr (inr h)))
-reserve_fault p kind entry wrong h = absurd (no_reserve_fault p.acts kind entry wrong (λ names table f. f) h)
+    inr (is_wrong, subst (λ names. HasUndeclaredName names acts here.kind here.entry) same told)
 
 -- the expanded tree is too large
 pub large_told : (p : Parts) (fault : OutlineFault) → (IsErrOf {T = Recipe} (Err fault) outline.TooMany → MAX_NODES < length (procedure_nodes p.acts))
     → Tells (λ spot. IsPartFault p spot.kind spot.entry) (outline_fault fault)
-large_told p outline.TooMany many = (refl, inr (refl, many refl))
+large_told p outline.TooMany many = inl (refl, inr (refl, many refl))
 large_told p outline.Memory many = tt
 
 pub large_refused : (acts : Acts) (fault : OutlineFault) → (IsErrOf {T = Recipe} (Err fault) outline.TooMany → MAX_NODES < length (procedure_nodes acts)) → (outline_fault fault ≡ Memory → ⊥)

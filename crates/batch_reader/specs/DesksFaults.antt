@@ -4,11 +4,11 @@ use Rattle.toml.specs.Data.{Data, Members}
 use Rattle.toml.specs.Parse.{parse_document}
 use Rattle.batch_reader.specs.Entries.{HasName, HasTables, IsTableOf, IsTruth, MayHaveName, has_only_key, items_at}
 use Rattle.batch_reader.specs.Keys.{Key, has_known_keys, needed, optional}
-use Rattle.batch_reader.specs.PartFaults.{FailsFirst, IsCountFault}
+use Rattle.batch_reader.specs.PartFaults.{FailsFirst, IsCountFault, IsDuplicateAt}
 use Rattle.batch_reader.specs.TableFaults.{IsArrayFault, IsKeyFault}
 use Rattle.batch_reader.specs.declared.document.TheConstants.{MAX_DOCUMENT_LEN}
 use Rattle.batch_reader.specs.declared.fault.EntryFault.{EntryFault}
-use Rattle.batch_reader.specs.declared.fault.EntryFault.TheVariants.{MissingKey, UnknownKey, Duplicate, OutOfLimit}
+use Rattle.batch_reader.specs.declared.fault.EntryFault.TheVariants.{MissingKey, UnknownKey, OutOfLimit}
 use Rattle.batch_reader.specs.declared.fault.TableKind.TheVariants as table
 use Rattle.batch_reader.specs.declared.keys.TheConstants.{MAX_LAG, MAX_PATH_LEN}
 use Rattle.batch_reader.specs.declared.keys.ValueForm.TheVariants as form
@@ -49,7 +49,7 @@ HasRightDeskCount desks = (1 ≤ length desks) × (length desks ≤ MAX_DESKS)
 
 -- the desk is the first that has the name of one before it
 abbrev pub HasDeskNameTwice : List Desk → ℕ → EntryFault → Type 0
-HasDeskNameTwice desks entry wrong = (wrong ≡ Duplicate) × FailsFirst HaveDistinctNames desks entry
+HasDeskNameTwice desks entry wrong = IsDuplicateAt (codes "name") wrong × FailsFirst HaveDistinctNames desks entry
 
 -- the tables of the document stand for desks, with which this is wrong
 pub record HasSetFault (ms : Members) (entry : ℕ) (wrong : EntryFault) : Type 0 where

@@ -1,23 +1,17 @@
 -- trusted: the content of a table's refusal.
-use Rattle.std.specs.Prelude.{◌≡◌, ℕ, ◌≤◌, nat_lt, ◌⊎◌, ⊤, List, Bool, true, false, not, position, if◌then◌else◌, Option, Some, None, codes}
+use Rattle.std.specs.Prelude.{◌≡◌, ℕ, ◌≤◌, nat_lt, ⊤, List, Bool, true, false, not, position, if◌then◌else◌, Option, Some, None, codes}
 use Rattle.std.specs.Borrow.{Bor}
 use Rattle.toml.specs.Data.{Data, Items, Members}
 use Rattle.batch_text.specs.NumberText.{IsNumber, number_of}
-use Rattle.batch_recipe.specs.Conditions.{Name}
 use Rattle.batch_recipe.specs.Diagram.{Diagram}
-use Rattle.batch_recipe.specs.WellFormed.{value_names}
-use Rattle.batch_recipe.specs.declared.acts.Acts.{Acts}
 use Rattle.batch_recipe.specs.declared.need.TheConstants.{MAX_NEED_UNITS}
-use Rattle.batch_recipe.specs.declared.quantity.Quantity.{Quantity}
-use Rattle.batch_recipe.specs.declared.role.Role.{Role}
 use Rattle.batch_reader.specs.ChartAnswer.{IsRead}
 use Rattle.batch_reader.specs.declared.chart_reading.TheConstants.{MAX_CHART_LEN}
 use Rattle.batch_reader.specs.Entries.{HasText}
 use Rattle.batch_reader.specs.NeedText.{is_star}
-use Rattle.batch_reader.specs.PartFaults.{HasActTwice, HasRoleTwice, HasUndeclaredName, HasUndeclaredRole, HasReportTwice, HasUndeclaredReport, HasValueTwice}
 use Rattle.batch_reader.specs.TableFaults.{count_items, IsFirstNoNeed, IsNoNeedCut, HasTooManyUnits, IsNoNeed, IsNeedOutOfLimits, IsTableFault}
 use Rattle.batch_reader.specs.declared.fault.EntryFault.{EntryFault}
-use Rattle.batch_reader.specs.declared.fault.EntryFault.TheVariants.{MissingKey, WrongKind, NoNeed, Undeclared, Duplicate, OutOfLimit, NeedOutOfLimit}
+use Rattle.batch_reader.specs.declared.fault.EntryFault.TheVariants.{MissingKey, WrongKind, NoNeed, OutOfLimit, NeedOutOfLimit}
 use Rattle.batch_reader.specs.declared.fault.Spot.{Spot}
 use Rattle.batch_reader.specs.declared.fault.TableFault.{TableFault}
 use Rattle.batch_reader.specs.declared.fault.TableFault.TheVariants.{Entry, Memory}
@@ -41,11 +35,6 @@ is_of_recipe kind = not (is_of_cell kind)
 abbrev pub IsAmong : (TableKind → Bool) → TableFault → Type 0
 IsAmong kinds (Entry here wrong) = kinds here.kind ≡ true
 IsAmong kinds Memory = ⊤
-
--- unless memory was refused, the fault is this one
-abbrev pub IsWrong : EntryFault → TableFault → Type 0
-IsWrong wrong (Entry here what) = what ≡ wrong
-IsWrong wrong Memory = ⊤
 
 -- unless memory was refused, this is wrong in a table of this kind
 abbrev pub IsToldIn : TableKind → EntryFault → TableFault → Type 0
@@ -102,24 +91,6 @@ IsActFault UnitProcedure table wrong = IsTableFault UnitProcedure table wrong
 IsActFault Operation table wrong = IsTableFault Operation table wrong
 IsActFault Phase table wrong = IsTableFault Phase table wrong
 IsActFault _ table wrong = ⊤
-
--- this is wrong with the names of values and acts, or with an act's references to them
-abbrev pub IsNamingFault : List Quantity → List Quantity → List Name → Acts → TableKind → ℕ → EntryFault → Type 0
-IsNamingFault inputs parameters outputs acts kind entry Duplicate = HasValueTwice inputs parameters outputs kind entry ⊎ HasActTwice acts kind entry
-IsNamingFault inputs parameters outputs acts kind entry Undeclared = HasUndeclaredName (value_names inputs parameters outputs) acts kind entry
-IsNamingFault inputs parameters outputs acts kind entry _ = ⊥
-
--- this is wrong with the names of the roles, or with a unit procedure's reference to them
-abbrev pub IsRoleFault : List Role → Acts → TableKind → ℕ → EntryFault → Type 0
-IsRoleFault roles acts kind entry Duplicate = HasRoleTwice roles kind entry
-IsRoleFault roles acts kind entry Undeclared = HasUndeclaredRole roles acts kind entry
-IsRoleFault roles acts kind entry _ = ⊥
-
--- this is wrong among the outputs that phase steps report
-abbrev pub IsReportFault : List Name → Acts → TableKind → ℕ → EntryFault → Type 0
-IsReportFault outputs acts kind entry Duplicate = HasReportTwice acts kind entry
-IsReportFault outputs acts kind entry Undeclared = HasUndeclaredReport outputs acts kind entry
-IsReportFault outputs acts kind entry _ = ⊥
 
 -- the fault of a key that has no value of its kind
 abbrev pub missing_or_wrong : Bor (List ℕ) → Option Data → EntryFault

@@ -31,6 +31,16 @@ pub record FailsFirst {X : Type 0} (Holds : List X → Type 0) (tables : List X)
   pub before : Holds (take entry tables)
   pub fails : ¬ Holds (take (entry + 1) tables)
 
+-- the fault is of a name at this key that no table declares
+abbrev pub IsUndeclaredAt : List ℕ → EntryFault → Type 0
+IsUndeclaredAt word (Undeclared key) = key.now ≡ word
+IsUndeclaredAt word _ = ⊥
+
+-- the fault is of a name at this key that stands twice
+abbrev pub IsDuplicateAt : List ℕ → EntryFault → Type 0
+IsDuplicateAt word (Duplicate key) = key.now ≡ word
+IsDuplicateAt word _ = ⊥
+
 -- there are too few tables, which is reported at entry 0, or too many, which is reported at the first one too many
 abbrev pub IsCountFault : ℕ → ℕ → ℕ → ℕ → Type 0
 IsCountFault least most count entry = ((count < least) × (entry ≡ 0)) ⊎ ((most < count) × (entry ≡ most))
@@ -76,10 +86,11 @@ HasUndeclaredUnit e _ entry = ⊥
 
 -- this is wrong with the equipment at the table that has this number among those of its kind
 abbrev pub IsEquipmentFault : Equipment → TableKind → ℕ → EntryFault → Type 0
-IsEquipmentFault e kind entry (OutOfLimit named) = (named ≡ None) × HasWrongCount e kind entry
-IsEquipmentFault e kind entry Duplicate = HasNameTwice e kind entry ⊎ HasPhaseTwice e kind entry
-IsEquipmentFault e kind entry Undeclared = HasUndeclaredUnit e kind entry
-IsEquipmentFault e kind entry _ = ⊥
+IsEquipmentFault e kind entry wrong =
+    ((wrong ≡ OutOfLimit None) × HasWrongCount e kind entry)
+    ⊎ ((IsDuplicateAt (codes "name") wrong × HasNameTwice e kind entry)
+    ⊎ ((IsUndeclaredAt (codes "unit") wrong × HasUndeclaredUnit e kind entry)
+    ⊎ (IsDuplicateAt (codes "phases") wrong × HasPhaseTwice e kind entry)))
 
 -- the tables of the document stand for equipment, with which this is wrong
 pub record HasEquipmentFault (document : Members) (kind : TableKind) (entry : ℕ) (wrong : EntryFault) : Type 0 where
@@ -97,9 +108,6 @@ pub record Parts : Type 0 where
   pub outputs : List Name
   pub roles : List Role
   pub acts : Acts
-
-abbrev pub values_of_parts : Parts → List Name
-values_of_parts p = value_names p.inputs p.parameters p.outputs
 
 abbrev pub HasWrongCountOfParts : Parts → TableKind → ℕ → Type 0
 HasWrongCountOfParts p table_kind.Input entry = IsCountFault 0 MAX_ENTRIES (length p.inputs) entry
@@ -137,6 +145,11 @@ HasActTwice acts _ entry = ⊥
 abbrev pub IsFirstUndeclared : List Name → List Name → List Act → ℕ → Type 0
 IsFirstUndeclared labels values acts entry = FailsFirst (λ front. list_all (is_work labels values) front ≡ true) acts entry
 
+-- the key at which an act of this kind names labels or values
+abbrev pub naming_key : TableKind → List ℕ
+naming_key table_kind.Phase = codes "values"
+naming_key _ = codes "chart"
+
 -- the chart, or the phase step's list of values, has an undeclared name: labels are names of the acts below
 abbrev pub HasUndeclaredName : List Name → Acts → TableKind → ℕ → Type 0
 HasUndeclaredName values acts table_kind.Procedure entry = (entry ≡ 0) × (is_work (act_names acts.unit_procedures.items) values acts.procedure ≢ true)
@@ -144,6 +157,12 @@ HasUndeclaredName values acts table_kind.UnitProcedure entry = IsFirstUndeclared
 HasUndeclaredName values acts table_kind.Operation entry = IsFirstUndeclared (act_names acts.phases.items) values acts.operations.items entry
 HasUndeclaredName values acts table_kind.Phase entry = IsFirstUndeclared [] values acts.phases.items entry
 HasUndeclaredName values acts _ entry = ⊥
+
+-- this is wrong with the names of values and acts, or with an act's references to them
+abbrev pub IsNamingFault : List Quantity → List Quantity → List Name → Acts → TableKind → ℕ → EntryFault → Type 0
+IsNamingFault inputs parameters outputs acts kind entry wrong =
+    (IsDuplicateAt (codes "name") wrong × (HasValueTwice inputs parameters outputs kind entry ⊎ HasActTwice acts kind entry))
+    ⊎ (IsUndeclaredAt (naming_key kind) wrong × HasUndeclaredName (value_names inputs parameters outputs) acts kind entry)
 
 abbrev pub role_names : List Role → List Name
 role_names roles = map (λ role. role.name) roles
@@ -158,6 +177,11 @@ abbrev pub HasUndeclaredRole : List Role → Acts → TableKind → ℕ → Type
 HasUndeclaredRole roles acts table_kind.UnitProcedure entry = FailsFirst (λ front. list_all (is_role_among (role_names roles)) front ≡ true) acts.unit_procedures.items entry
 HasUndeclaredRole roles acts _ entry = ⊥
 
+-- this is wrong with the names of the roles, or with a unit procedure's reference to them
+abbrev pub IsRoleFault : List Role → Acts → TableKind → ℕ → EntryFault → Type 0
+IsRoleFault roles acts kind entry wrong =
+    (IsDuplicateAt (codes "name") wrong × HasRoleTwice roles kind entry) ⊎ (IsUndeclaredAt (codes "role") wrong × HasUndeclaredRole roles acts kind entry)
+
 -- the phase step is the first that reports an output twice
 abbrev pub HasReportTwice : Acts → TableKind → ℕ → Type 0
 HasReportTwice acts table_kind.Phase entry = FailsFirst (λ front. list_all reports_once front ≡ true) acts.phases.items entry
@@ -168,11 +192,16 @@ abbrev pub HasUndeclaredReport : List Name → Acts → TableKind → ℕ → Ty
 HasUndeclaredReport outputs acts table_kind.Phase entry = FailsFirst (λ front. list_all (reports_among outputs) front ≡ true) acts.phases.items entry
 HasUndeclaredReport outputs acts _ entry = ⊥
 
+-- this is wrong among the outputs that phase steps report
+abbrev pub IsReportFault : List Name → Acts → TableKind → ℕ → EntryFault → Type 0
+IsReportFault outputs acts kind entry wrong =
+    (IsDuplicateAt (codes "reports") wrong × HasReportTwice acts kind entry) ⊎ (IsUndeclaredAt (codes "reports") wrong × HasUndeclaredReport outputs acts kind entry)
+
 -- this one is the first of the acts of a table that reserves a unit procedure twice, or another than these
 abbrev pub IsReserveFaultOf : List Name → List Act → ℕ → EntryFault → Type 0
-IsReserveFaultOf names acts entry Duplicate = FailsFirst (λ front. list_all reserves_once front ≡ true) acts entry
-IsReserveFaultOf names acts entry Undeclared = FailsFirst (λ front. list_all (reserves_among names) front ≡ true) acts entry
-IsReserveFaultOf names acts entry _ = ⊥
+IsReserveFaultOf names acts entry wrong =
+    (IsDuplicateAt (codes "reserves") wrong × FailsFirst (λ front. list_all reserves_once front ≡ true) acts entry)
+    ⊎ (IsUndeclaredAt (codes "reserves") wrong × FailsFirst (λ front. list_all (reserves_among names) front ≡ true) acts entry)
 
 -- the acts of each table reserve unit procedures
 abbrev pub HasReserveFault : Acts → TableKind → ℕ → EntryFault → Type 0
@@ -183,10 +212,12 @@ HasReserveFault acts _ entry wrong = ⊥
 
 -- this is wrong with the parts of a recipe at the table that has this number among those of its kind
 abbrev pub IsPartFault : Parts → TableKind → ℕ → EntryFault → Type 0
-IsPartFault p kind entry (OutOfLimit named) = (named ≡ None) × (HasWrongCountOfParts p kind entry ⊎ IsTooLarge p kind entry)
-IsPartFault p kind entry Duplicate = HasValueTwice p.inputs p.parameters p.outputs kind entry ⊎ (HasRoleTwice p.roles kind entry ⊎ (HasActTwice p.acts kind entry ⊎ (HasReportTwice p.acts kind entry ⊎ HasReserveFault p.acts kind entry Duplicate)))
-IsPartFault p kind entry Undeclared = HasUndeclaredName (values_of_parts p) p.acts kind entry ⊎ (HasUndeclaredRole p.roles p.acts kind entry ⊎ (HasUndeclaredReport p.outputs p.acts kind entry ⊎ HasReserveFault p.acts kind entry Undeclared))
-IsPartFault p kind entry _ = ⊥
+IsPartFault p kind entry wrong =
+    ((wrong ≡ OutOfLimit None) × (HasWrongCountOfParts p kind entry ⊎ IsTooLarge p kind entry))
+    ⊎ (IsNamingFault p.inputs p.parameters p.outputs p.acts kind entry wrong
+    ⊎ (IsRoleFault p.roles p.acts kind entry wrong
+    ⊎ (IsReportFault p.outputs p.acts kind entry wrong
+    ⊎ HasReserveFault p.acts kind entry wrong)))
 
 -- the tables of the document stand for parts of a recipe, with which this is wrong
 pub record HasPartFault (document : Members) (kind : TableKind) (entry : ℕ) (wrong : EntryFault) : Type 0 where

@@ -92,8 +92,8 @@ NoDeskIsTooFew = HasWrongDeskCount [] 0 (OutOfLimit None) × (¬ HasWrongDeskCou
 
 -- the second of two desks of one name is reported, and not the first
 abbrev pub SecondNameIsTold : Type 0
-SecondNameIsTold = (one two : Desk) → one.name ≡ codes "A" → two.name ≡ codes "A"
-    → HasDeskNameTwice (one ∷ two ∷ []) 1 Duplicate × (¬ HasDeskNameTwice (one ∷ two ∷ []) 0 Duplicate)
+SecondNameIsTold = (one two : Desk) (key : Bor (List ℕ)) → one.name ≡ codes "A" → two.name ≡ codes "A" → key.now ≡ codes "name"
+    → HasDeskNameTwice (one ∷ two ∷ []) 1 (Duplicate key) × (¬ HasDeskNameTwice (one ∷ two ∷ []) 0 (Duplicate key))
 
 -- names that differ in a letter differ
 abbrev pub OtherNamesDiffer : Type 0

@@ -3,11 +3,14 @@ use Rattle.std.specs.Prelude.{◌≡◌, ◌≢◌, ℕ, List, [], ◌∷◌, Op
 use Rattle.std.specs.Borrow.{Bor}
 use Rattle.toml.specs.Data.{Items, Members, no_members, member, no_items, item, string, array, table}
 use Rattle.batch_cell.specs.declared.module.Module.{Module}
+use Rattle.batch_recipe.specs.Conditions.{Name}
 use Rattle.batch_recipe.specs.declared.act.Act.{Act}
+use Rattle.batch_recipe.specs.declared.acts.Acts.{Acts}
 use Rattle.batch_reader.specs.Keys.{needed}
-use Rattle.batch_reader.specs.PartFaults.{HasUndeclaredUnit, IsCountFault, IsReserveFaultOf}
+use Rattle.batch_reader.specs.PartFaults.{Equipment, IsCountFault, IsEquipmentFault, IsNamingFault, IsReportFault, IsReserveFaultOf}
 use Rattle.batch_reader.specs.TableFaults.{IsFaultOfTable, IsFirstNoNeed, IsKeyFault, IsNeedOutOfLimits, IsNoChartAt, IsNoNeed}
 use Rattle.batch_reader.specs.declared.fault.EntryFault.TheVariants.{Duplicate, MissingKey, NumberOutOfLimit, OutOfLimit, Undeclared, UnknownKey}
+use Rattle.batch_reader.specs.declared.fault.TableKind.{TableKind}
 use Rattle.batch_reader.specs.declared.fault.TableKind.TheVariants as table_kind
 use Rattle.batch_reader.specs.declared.keys.ValueForm.TheVariants as form
 
@@ -95,12 +98,27 @@ NoTurnsAreTold =
 abbrev pub NoTurnsAreShort : Type 0
 NoTurnsAreShort = (key : Option (Bor (List ℕ))) → ¬ IsKeyFault (needed (codes "chart") form.Chart) with_no_turns (OutOfLimit key)
 
--- a module of the unit MIXER in a cell without it, and no module after it
+-- a cell of this module alone
+abbrev pub one_module : Module → Equipment
+one_module m = record { units = []; modules = m ∷ []; shared = [] }
+
+-- a module of the unit MIXER in a cell without it, and no module after it, nor another key
 abbrev pub FirstModuleIsUndeclared : Type 0
-FirstModuleIsUndeclared = (m : Module) → m.unit ≡ Some (codes "MIXER") → HasUndeclaredUnit (record { units = []; modules = m ∷ []; shared = [] }) table_kind.Module 0
+FirstModuleIsUndeclared = (m : Module) (key : Bor (List ℕ)) → m.unit ≡ Some (codes "MIXER") → key.now ≡ codes "unit" → IsEquipmentFault (one_module m) table_kind.Module 0 (Undeclared key)
 
 abbrev pub NoLaterModuleIsTold : Type 0
-NoLaterModuleIsTold = (m : Module) → m.unit ≡ Some (codes "MIXER") → ¬ HasUndeclaredUnit (record { units = []; modules = m ∷ []; shared = [] }) table_kind.Module 1
+NoLaterModuleIsTold = (m : Module) (key : Bor (List ℕ)) → m.unit ≡ Some (codes "MIXER") → ¬ IsEquipmentFault (one_module m) table_kind.Module 1 (Undeclared key)
+
+abbrev pub NoNameIsUndeclared : Type 0
+NoNameIsUndeclared = (e : Equipment) (kind : TableKind) (entry : ℕ) (key : Bor (List ℕ)) → key.now ≡ codes "name" → ¬ IsEquipmentFault e kind entry (Undeclared key)
+
+-- what a phase step reports is at no other key, and so is a name that it hands on: a phase step has no chart
+abbrev pub ReportIsNoReserve : Type 0
+ReportIsNoReserve = (outputs : List Name) (acts : Acts) (entry : ℕ) (key : Bor (List ℕ)) → key.now ≡ codes "reserves"
+    → (¬ IsReportFault outputs acts table_kind.Phase entry (Duplicate key)) × (¬ IsReportFault outputs acts table_kind.Phase entry (Undeclared key))
+
+abbrev pub PhaseHasNoChart : Type 0
+PhaseHasNoChart = (outputs : List Name) (acts : Acts) (entry : ℕ) (key : Bor (List ℕ)) → key.now ≡ codes "chart" → ¬ IsNamingFault [] [] outputs acts table_kind.Phase entry (Undeclared key)
 
 -- the last of 65 tables is too many where 64 may stand, and none of 64 is
 abbrev pub CountsAreTold : Type 0
@@ -108,12 +126,13 @@ CountsAreTold = IsCountFault 1 64 65 64 × (¬ IsCountFault 1 64 65 65) × (¬ I
 
 -- a phase step that reserves KEEP where no unit procedure has that name
 abbrev pub ReserveIsUndeclared : Type 0
-ReserveIsUndeclared = (step : Act) → step.reserves.items ≡ codes "KEEP" ∷ [] → IsReserveFaultOf (codes "MAKE" ∷ []) (step ∷ []) 0 Undeclared
+ReserveIsUndeclared = (step : Act) (key : Bor (List ℕ)) → step.reserves.items ≡ codes "KEEP" ∷ [] → key.now ≡ codes "reserves" → IsReserveFaultOf (codes "MAKE" ∷ []) (step ∷ []) 0 (Undeclared key)
 
 -- and where one has
 abbrev pub ReserveIsDeclared : Type 0
-ReserveIsDeclared = (step : Act) → step.reserves.items ≡ codes "KEEP" ∷ [] → ¬ IsReserveFaultOf (codes "MAKE" ∷ codes "KEEP" ∷ []) (step ∷ []) 0 Undeclared
+ReserveIsDeclared = (step : Act) (key : Bor (List ℕ)) → step.reserves.items ≡ codes "KEEP" ∷ [] → ¬ IsReserveFaultOf (codes "MAKE" ∷ codes "KEEP" ∷ []) (step ∷ []) 0 (Undeclared key)
 
 -- one that reserves it twice
 abbrev pub ReserveStandsTwice : Type 0
-ReserveStandsTwice = (step : Act) → step.reserves.items ≡ codes "KEEP" ∷ codes "KEEP" ∷ [] → IsReserveFaultOf (codes "MAKE" ∷ codes "KEEP" ∷ []) (step ∷ []) 0 Duplicate
+ReserveStandsTwice = (step : Act) (key : Bor (List ℕ)) → step.reserves.items ≡ codes "KEEP" ∷ codes "KEEP" ∷ [] → key.now ≡ codes "reserves"
+    → IsReserveFaultOf (codes "MAKE" ∷ codes "KEEP" ∷ []) (step ∷ []) 0 (Duplicate key)

@@ -166,8 +166,8 @@ IsKeyFault key table (OutOfLimit named) = NamesKey key.word named × HasValue (I
 IsKeyFault key table (NumberOutOfLimit offset) = HasValue (HasNumberOutsideAt key.form offset) key.word table
 IsKeyFault key table (Chart offset) = HasValue (HasChartFaultAt key.form offset) key.word table
 IsKeyFault key table UnknownKey = ⊥
-IsKeyFault key table Undeclared = ⊥
-IsKeyFault key table Duplicate = ⊥
+IsKeyFault key table (Undeclared named) = ⊥
+IsKeyFault key table (Duplicate named) = ⊥
 
 -- this is wrong with the table at one of these keys, which may stand there
 pub record HasKeyFault (keys : List Key) (stands_there : List ℕ → Bool) (table : Members) (wrong : EntryFault) : Type 0 where

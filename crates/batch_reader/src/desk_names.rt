@@ -19,7 +19,7 @@ pub(crate) fn check_names(desks: &[Desk]) -> Result<(), TableFault>
     for (entry, desk) in desks.iter().enumerate() {
         if is_name_of(&desks[..entry], &desk.name) {
             let kind = TableKind::Desk;
-            return Err(TableFault::Entry(Spot { kind, entry }, EntryFault::Duplicate));
+            return Err(TableFault::Entry(Spot { kind, entry }, EntryFault::Duplicate("name")));
         }
     }
     Ok(())

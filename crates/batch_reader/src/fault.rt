@@ -109,12 +109,12 @@ pub enum EntryFault {
     /// The table has a key that tables of its kind don't have, as a unit procedure's `unit` beside `role`.
     #[error("a key is unknown here")]
     UnknownKey,
-    /// A unit, a role, a label or a value is named that the document doesn't declare.
+    /// At this key a unit, a role, a label or a value is named that the document doesn't declare; of a desk, a unit that the cell hasn't.
     #[error("a name is not declared")]
-    Undeclared,
-    /// A name is declared that an earlier table has, or a phase that its unit offers already.
+    Undeclared(&'static str),
+    /// At this key a name stands that an earlier table has, a phase that the unit offers already, or a name twice in a list.
     #[error("a name stands twice")]
-    Duplicate,
+    Duplicate(&'static str),
     /// At this key a number, a text's length in bytes or a count is out of its limits, or `min` is above `max`. With no key, the tables,
     /// the nodes of the procedure or the bytes of the document are too many, or the tables too few.
     #[error("a number, a length or a count is out of its limits")]

@@ -1,10 +1,10 @@
 //! The phases that units offer.
-ghost use Rattle.std.specs.Prelude.{◌≢◌, nat_eq, OnOk, IfErr, IsErrOf};
+ghost use Rattle.std.specs.Prelude.{◌≢◌, nat_eq, codes, OnOk, IfErr, IsErrOf};
 ghost use Rattle.std.specs.Cmp.Lexicographic.{pointwise};
 ghost use Rattle.std.specs.List.{IsDistinct};
 ghost use Rattle.batch_cell.specs.Equipment.{OffersPhasesOnce, unit_phases};
-ghost use Rattle.batch_reader.specs.Faults.{IsToldIn, Tells};
-ghost use Rattle.batch_reader.specs.PartFaults.{FailsFirst, OffersTwice};
+ghost use Rattle.batch_reader.specs.Faults.{Tells, TellsIn};
+ghost use Rattle.batch_reader.specs.PartFaults.{FailsFirst, IsDuplicateAt, OffersTwice};
 ghost use Rattle.batch_reader.specs.declared.fault.EntryFault.{EntryFault};
 ghost use Rattle.batch_reader.specs.declared.fault.Spot.{Spot};
 
@@ -23,7 +23,7 @@ pub(crate) fn check_offered_phases(
 ) -> Result<(), TableFault>
     ensures ok { OnOk result (OffersPhasesOnce units.now modules.now) }
     ensures refused { IfErr result (λ fault. fault ≢ TableFault.Memory → ¬ (OffersPhasesOnce units.now modules.now)) }
-    ensures told { IfErr result (IsToldIn TableKind.Module EntryFault.Duplicate) }
+    ensures told { IfErr result (TellsIn TableKind.Module (λ _. IsDuplicateAt (codes "phases"))) }
     ensures stands { IfErr result (Tells (λ spot _. OffersTwice units.now modules.now spot.entry)) }
 {
     for unit in units {
@@ -37,7 +37,7 @@ fn check_unit_phases(alloc: Global, modules: &[Module], unit: &Name) -> Result<(
     ensures ok { OnOk result (IsDistinct (pointwise nat_eq) (unit_phases modules.now unit.now)) }
     ensures refused { IfErr result (λ fault. fault ≢ TableFault.Memory
         → ¬ (IsDistinct (pointwise nat_eq) (unit_phases modules.now unit.now))) }
-    ensures told { IfErr result (IsToldIn TableKind.Module EntryFault.Duplicate) }
+    ensures told { IfErr result (TellsIn TableKind.Module (λ _. IsDuplicateAt (codes "phases"))) }
     ensures first { (spot : Spot) (wrong : EntryFault) → IsErrOf result (TableFault.Entry spot wrong)
         → FailsFirst (λ front. IsDistinct (pointwise nat_eq) (unit_phases front unit.now)) modules.now spot.entry }
 {
@@ -48,7 +48,7 @@ fn check_unit_phases(alloc: Global, modules: &[Module], unit: &Name) -> Result<(
                 kind: TableKind::Module,
                 entry,
             };
-            add_list(alloc, &mut phases, &module.phases, spot)?;
+            add_list(alloc, &mut phases, &module.phases, "phases", spot)?;
         }
     }
     Ok(())

@@ -1,12 +1,12 @@
 //! The conditions on the parts of a recipe.
-ghost use Rattle.std.specs.Prelude.{◌≡◌, ◌≢◌, ◌<◌, ◌≤◌, true, [], length, IfErr, IfOk, IsErrOf, OnOk};
+ghost use Rattle.std.specs.Prelude.{◌≡◌, ◌≢◌, ◌<◌, ◌≤◌, true, [], length, codes, IfErr, IfOk, IsErrOf, OnOk};
 ghost use Rattle.std.specs.List.{list_all};
 ghost use Rattle.batch_recipe.specs.TableNames.{AreNamesOf};
 ghost use Rattle.batch_recipe.specs.WellFormed.{is_among, is_well_formed, is_work, value_names};
 ghost use Rattle.batch_recipe.specs.declared.recipe.TheConstants.{MAX_ENTRIES, MAX_ACTS};
 ghost use Rattle.batch_recipe.specs.declared.role.TheConstants.{MAX_ROLES};
-ghost use Rattle.batch_reader.specs.Faults.{IsAmong, IsNamingFault, IsToldIn, IsWrong, Tells, is_of_recipe};
-ghost use Rattle.batch_reader.specs.PartFaults.{FailsFirst, HasUndeclaredName, IsPartFault};
+ghost use Rattle.batch_reader.specs.Faults.{IsAmong, Tells, TellsAt, TellsIn, is_of_recipe};
+ghost use Rattle.batch_reader.specs.PartFaults.{FailsFirst, HasUndeclaredName, IsNamingFault, IsPartFault, IsUndeclaredAt, naming_key};
 ghost use Rattle.batch_reader.specs.Naming.{acts_are_declared};
 ghost use Rattle.batch_reader.specs.FormedActs.{AreFormed, AreFormedActs, IsFormedWork};
 ghost use Rattle.batch_reader.specs.SoundRecipe.{IsSoundRecipe};
@@ -112,7 +112,7 @@ fn check_acts(alloc: Global, acts: &Acts, names: &RecipeNames) -> Result<(), Tab
     requires names { AreNamesOf names.now.acts acts.now }
     ensures ok { OnOk result (acts_are_declared names.now.values.keys acts.now ≡ true) }
     ensures refused { IfErr result (λ fault. acts_are_declared names.now.values.keys acts.now ≢ true) }
-    ensures told { IfErr result (λ fault. (fault ≢ TableFault.Memory) × (IsAmong is_of_recipe fault × IsWrong EntryFault.Undeclared fault)) }
+    ensures told { IfErr result (λ fault. (fault ≢ TableFault.Memory) × (IsAmong is_of_recipe fault × Tells (λ spot. IsUndeclaredAt (naming_key spot.kind)) fault)) }
     ensures stands { IfErr result (Tells (λ spot _. HasUndeclaredName names.now.values.keys acts.now spot.kind spot.entry)) }
 {
     let values = &names.values;
@@ -121,12 +121,14 @@ fn check_acts(alloc: Global, acts: &Acts, names: &RecipeNames) -> Result<(), Tab
         &acts.unit_procedures,
         &names.acts.operations,
         values,
+        "chart",
         TableKind::UnitProcedure,
     )?;
     check_table(
         &acts.operations,
         &names.acts.phases,
         values,
+        "chart",
         TableKind::Operation,
     )?;
     check_phases(alloc, &acts.phases, values)
@@ -141,14 +143,14 @@ fn check_procedure(
     requires { IsFormedWork procedure.now.work }
     ensures ok { OnOk result (is_work labels.now.keys values.now.keys procedure.now ≡ true) }
     ensures refused { IfErr result (λ fault. is_work labels.now.keys values.now.keys procedure.now ≢ true) }
-    ensures told { IfErr result (λ fault. fault ≡ TableFault.Entry (record { kind = TableKind.Procedure; entry = 0 }) EntryFault.Undeclared) }
+    ensures told { IfErr result (λ fault. (fault ≢ TableFault.Memory) × TellsAt (record { kind = TableKind.Procedure; entry = 0 }) (IsUndeclaredAt (codes "chart")) fault) }
 {
     if !is_work(procedure, labels, values) {
         let spot = Spot {
             kind: TableKind::Procedure,
             entry: 0,
         };
-        return Err(TableFault::Entry(spot, EntryFault::Undeclared));
+        return Err(TableFault::Entry(spot, EntryFault::Undeclared("chart")));
     }
     Ok(())
 }
@@ -158,32 +160,33 @@ fn check_phases(alloc: Global, phases: &[Act], values: &IndexSet<Name>) -> Resul
     requires { AreFormedActs phases.now }
     ensures ok { OnOk result (list_all (is_work [] values.now.keys) phases.now ≡ true) }
     ensures refused { IfErr result (λ fault. list_all (is_work [] values.now.keys) phases.now ≢ true) }
-    ensures told { IfErr result (λ fault. (fault ≢ TableFault.Memory) × IsToldIn TableKind.Phase EntryFault.Undeclared fault) }
+    ensures told { IfErr result (λ fault. (fault ≢ TableFault.Memory) × TellsIn TableKind.Phase (λ _. IsUndeclaredAt (codes "values")) fault) }
     ensures first { (spot : Spot) (wrong : EntryFault) → IsErrOf result (TableFault.Entry spot wrong)
         → FailsFirst (λ front. list_all (is_work [] values.now.keys) front ≡ true) phases.now spot.entry }
 {
     let none = IndexSet::new(alloc);
-    check_table(phases, &none, values, TableKind::Phase)
+    check_table(phases, &none, values, "values", TableKind::Phase)
 }
 
-/// Tests that the acts of a table name nothing but these labels and values.
+/// Tests that the acts of a table name nothing at the key but these labels and values.
 fn check_table(
     table: &[Act],
     labels: &IndexSet<Name>,
     values: &IndexSet<Name>,
+    key: &'static str,
     kind: TableKind,
 ) -> Result<(), TableFault>
     requires { AreFormedActs table.now }
     ensures ok { OnOk result (list_all (is_work labels.now.keys values.now.keys) table.now ≡ true) }
     ensures refused { IfErr result (λ fault. list_all (is_work labels.now.keys values.now.keys) table.now ≢ true) }
-    ensures told { IfErr result (λ fault. (fault ≢ TableFault.Memory) × IsToldIn kind EntryFault.Undeclared fault) }
+    ensures told { IfErr result (λ fault. (fault ≢ TableFault.Memory) × TellsIn kind (λ _. IsUndeclaredAt key.now) fault) }
     ensures first { (spot : Spot) (wrong : EntryFault) → IsErrOf result (TableFault.Entry spot wrong)
         → FailsFirst (λ front. list_all (is_work labels.now.keys values.now.keys) front ≡ true) table.now spot.entry }
 {
     for (entry, act) in table.iter().enumerate() {
         if !is_work(act, labels, values) {
             let spot = Spot { kind, entry };
-            return Err(TableFault::Entry(spot, EntryFault::Undeclared));
+            return Err(TableFault::Entry(spot, EntryFault::Undeclared(key)));
         }
     }
     Ok(())

@@ -1,11 +1,10 @@
 //! Reading the names of a recipe's values and acts.
-ghost use Rattle.std.specs.Prelude.{◌≡◌, ◌≢◌, ◌⊎◌, true, map, IfErr, IfOk, OnOk};
+ghost use Rattle.std.specs.Prelude.{◌≡◌, ◌≢◌, ◌⊎◌, true, map, codes, IfErr, IfOk, OnOk};
 ghost use Rattle.batch_recipe.specs.TableNames.{AreNamesOf};
 ghost use Rattle.batch_recipe.specs.WellFormed.{are_distinct, value_names};
-ghost use Rattle.batch_reader.specs.Faults.{IsAmong, IsToldIn, IsWrong, Tells, is_of_recipe};
-ghost use Rattle.batch_reader.specs.PartFaults.{AreDistinct, FailsFirst, HasActTwice, HasValueTwice};
+ghost use Rattle.batch_reader.specs.Faults.{IsAmong, Tells, TellsIn, is_of_recipe};
+ghost use Rattle.batch_reader.specs.PartFaults.{AreDistinct, FailsFirst, HasActTwice, HasValueTwice, IsDuplicateAt};
 ghost use Rattle.batch_reader.specs.Naming.{act_names_differ, names_differ};
-ghost use Rattle.batch_reader.specs.declared.fault.EntryFault.{EntryFault};
 
 use crate::fault::{TableFault, TableKind};
 use crate::names::{Named, add_names};
@@ -52,7 +51,7 @@ pub(crate) fn recipe_names(
     ensures differ { OnOk result (names_differ (value_names inputs.now parameters.now outputs.now) acts.now ≡ true) }
     ensures refused { IfErr result (λ fault. fault ≢ TableFault.Memory
         → names_differ (value_names inputs.now parameters.now outputs.now) acts.now ≢ true) }
-    ensures told { IfErr result (λ fault. IsAmong is_of_recipe fault × IsWrong EntryFault.Duplicate fault) }
+    ensures told { IfErr result (λ fault. IsAmong is_of_recipe fault × Tells (λ _. IsDuplicateAt (codes "name")) fault) }
     ensures stands { IfErr result (Tells (λ spot _. HasValueTwice inputs.now parameters.now outputs.now spot.kind spot.entry ⊎ HasActTwice acts.now spot.kind spot.entry)) }
 {
     let values = value_names(alloc, inputs, parameters, outputs)?;
@@ -65,7 +64,7 @@ fn names_of_acts(alloc: Global, acts: &Acts) -> Result<TableNames, TableFault>
     ensures ok { IfOk result (λ names. AreNamesOf names acts.now) }
     ensures differ { OnOk result (act_names_differ acts.now ≡ true) }
     ensures refused { IfErr result (λ fault. fault ≢ TableFault.Memory → act_names_differ acts.now ≢ true) }
-    ensures told { IfErr result (λ fault. IsAmong is_of_recipe fault × IsWrong EntryFault.Duplicate fault) }
+    ensures told { IfErr result (λ fault. IsAmong is_of_recipe fault × Tells (λ _. IsDuplicateAt (codes "name")) fault) }
     ensures stands { IfErr result (Tells (λ spot _. HasActTwice acts.now spot.kind spot.entry)) }
 {
     let unit_procedures = distinct_names(alloc, &acts.unit_procedures, TableKind::UnitProcedure)?;
@@ -89,7 +88,7 @@ fn value_names(
     ensures differ { OnOk result (are_distinct (value_names inputs.now parameters.now outputs.now) ≡ true) }
     ensures refused { IfErr result (λ fault. fault ≢ TableFault.Memory
         → are_distinct (value_names inputs.now parameters.now outputs.now) ≢ true) }
-    ensures told { IfErr result (λ fault. IsAmong is_of_recipe fault × IsWrong EntryFault.Duplicate fault) }
+    ensures told { IfErr result (λ fault. IsAmong is_of_recipe fault × Tells (λ _. IsDuplicateAt (codes "name")) fault) }
     ensures stands { IfErr result (Tells (λ spot _. HasValueTwice inputs.now parameters.now outputs.now spot.kind spot.entry)) }
 {
     let mut names = IndexSet::new(alloc);
@@ -108,7 +107,7 @@ pub(crate) fn distinct_names<T: Named>(
     ensures ok { IfOk result (λ names. names.keys ≡ map T.name_of table.now) }
     ensures differ { OnOk result (are_distinct (map T.name_of table.now) ≡ true) }
     ensures refused { IfErr result (λ fault. fault ≢ TableFault.Memory → are_distinct (map T.name_of table.now) ≢ true) }
-    ensures told { IfErr result (IsToldIn kind EntryFault.Duplicate) }
+    ensures told { IfErr result (TellsIn kind (λ _. IsDuplicateAt (codes "name"))) }
     ensures stands { IfErr result (Tells (λ spot _. FailsFirst (λ front. AreDistinct (map T.name_of front)) table.now spot.entry)) }
 {
     let mut names = IndexSet::new(alloc);

@@ -1,10 +1,10 @@
 //! The outputs that phase steps report.
-ghost use Rattle.std.specs.Prelude.{◌≡◌, ◌≢◌, ◌&&◌, true, IfErr, OnOk};
+ghost use Rattle.std.specs.Prelude.{◌≡◌, ◌≢◌, ◌&&◌, true, codes, IfErr, OnOk};
 ghost use Rattle.std.specs.List.{list_all, list_any};
 ghost use Rattle.batch_recipe.specs.Conditions.{same_name};
 ghost use Rattle.batch_recipe.specs.WellFormed.{are_distinct, is_among, reports_among, reports_once, reports_with};
-ghost use Rattle.batch_reader.specs.Faults.{IsAmong, IsReportFault, IsToldIn, Tells, is_of_recipe};
-ghost use Rattle.batch_reader.specs.PartFaults.{FailsFirst};
+ghost use Rattle.batch_reader.specs.Faults.{IsAmong, Tells, TellsIn, is_of_recipe};
+ghost use Rattle.batch_reader.specs.PartFaults.{FailsFirst, IsDuplicateAt, IsReportFault, IsUndeclaredAt};
 
 use crate::fault::{EntryFault, Spot, TableFault, TableKind};
 use batch_recipe::{Act, Acts, Work};
@@ -25,7 +25,7 @@ pub(crate) fn check_reports(outputs: &[Name], acts: &Acts) -> Result<(), TableFa
 fn check_once(phases: &[Act]) -> Result<(), TableFault>
     ensures ok { OnOk result (list_all reports_once phases.now ≡ true) }
     ensures refused { IfErr result (λ fault. list_all reports_once phases.now ≢ true) }
-    ensures told { IfErr result (IsToldIn TableKind.Phase EntryFault.Duplicate) }
+    ensures told { IfErr result (TellsIn TableKind.Phase (λ _. IsDuplicateAt (codes "reports"))) }
     ensures stands { IfErr result (Tells (λ spot _. FailsFirst (λ front. list_all reports_once front ≡ true) phases.now spot.entry)) }
 {
     for (entry, step) in phases.iter().enumerate() {
@@ -34,7 +34,7 @@ fn check_once(phases: &[Act]) -> Result<(), TableFault>
                 kind: TableKind::Phase,
                 entry,
             };
-            return Err(TableFault::Entry(spot, EntryFault::Duplicate));
+            return Err(TableFault::Entry(spot, EntryFault::Duplicate("reports")));
         }
     }
     Ok(())
@@ -44,7 +44,7 @@ fn check_once(phases: &[Act]) -> Result<(), TableFault>
 fn check_declared(outputs: &[Name], phases: &[Act]) -> Result<(), TableFault>
     ensures ok { OnOk result (list_all (reports_among outputs.now) phases.now ≡ true) }
     ensures refused { IfErr result (λ fault. list_all (reports_among outputs.now) phases.now ≢ true) }
-    ensures told { IfErr result (IsToldIn TableKind.Phase EntryFault.Undeclared) }
+    ensures told { IfErr result (TellsIn TableKind.Phase (λ _. IsUndeclaredAt (codes "reports"))) }
     ensures stands { IfErr result (Tells (λ spot _. FailsFirst (λ front. list_all (reports_among outputs.now) front ≡ true) phases.now spot.entry)) }
 {
     for (entry, step) in phases.iter().enumerate() {
@@ -53,7 +53,7 @@ fn check_declared(outputs: &[Name], phases: &[Act]) -> Result<(), TableFault>
                 kind: TableKind::Phase,
                 entry,
             };
-            return Err(TableFault::Entry(spot, EntryFault::Undeclared));
+            return Err(TableFault::Entry(spot, EntryFault::Undeclared("reports")));
         }
     }
     Ok(())

@@ -1,9 +1,9 @@
 //! The unit procedures that acts reserve.
-ghost use Rattle.std.specs.Prelude.{◌≡◌, ◌≢◌, ◌&&◌, true, IfErr, OnOk};
+ghost use Rattle.std.specs.Prelude.{◌≡◌, ◌≢◌, ◌&&◌, true, codes, IfErr, OnOk};
 ghost use Rattle.std.specs.List.{list_all};
 ghost use Rattle.batch_recipe.specs.WellFormed.{act_names, are_reserves, is_among, reserve_well, reserves_among, reserves_none, reserves_once};
-ghost use Rattle.batch_reader.specs.Faults.{IsAmong, IsToldIn, Tells, TellsIn, is_of_recipe};
-ghost use Rattle.batch_reader.specs.PartFaults.{FailsFirst, HasReserveFault, IsReserveFaultOf};
+ghost use Rattle.batch_reader.specs.Faults.{IsAmong, Tells, TellsIn, is_of_recipe};
+ghost use Rattle.batch_reader.specs.PartFaults.{FailsFirst, HasReserveFault, IsDuplicateAt, IsReserveFaultOf, IsUndeclaredAt};
 ghost use Rattle.batch_reader.specs.declared.fault.EntryFault.{EntryFault};
 ghost use Rattle.batch_reader.specs.declared.fault.Spot.{Spot};
 ghost use Rattle.batch_reader.specs.declared.fault.TableFault.{TableFault};
@@ -42,13 +42,13 @@ fn check_table(units: &[Act], table: &[Act], kind: TableKind) -> Result<(), Tabl
 fn check_once(table: &[Act], kind: TableKind) -> Result<(), TableFault>
     ensures ok { OnOk result (list_all reserves_once table.now ≡ true) }
     ensures refused { IfErr result (λ fault. list_all reserves_once table.now ≢ true) }
-    ensures told { IfErr result (IsToldIn kind EntryFault.Duplicate) }
+    ensures told { IfErr result (TellsIn kind (λ _. IsDuplicateAt (codes "reserves"))) }
     ensures stands { IfErr result (Tells (λ spot _. FailsFirst (λ front. list_all reserves_once front ≡ true) table.now spot.entry)) }
 {
     for (entry, act) in table.iter().enumerate() {
         if !are_distinct(&act.reserves) {
             let spot = Spot { kind, entry };
-            return Err(TableFault::Entry(spot, EntryFault::Duplicate));
+            return Err(TableFault::Entry(spot, EntryFault::Duplicate("reserves")));
         }
     }
     Ok(())
@@ -58,13 +58,13 @@ fn check_once(table: &[Act], kind: TableKind) -> Result<(), TableFault>
 fn check_declared(units: &[Act], table: &[Act], kind: TableKind) -> Result<(), TableFault>
     ensures ok { OnOk result (list_all (reserves_among (act_names units.now)) table.now ≡ true) }
     ensures refused { IfErr result (λ fault. list_all (reserves_among (act_names units.now)) table.now ≢ true) }
-    ensures told { IfErr result (IsToldIn kind EntryFault.Undeclared) }
+    ensures told { IfErr result (TellsIn kind (λ _. IsUndeclaredAt (codes "reserves"))) }
     ensures stands { IfErr result (Tells (λ spot _. FailsFirst (λ front. list_all (reserves_among (act_names units.now)) front ≡ true) table.now spot.entry)) }
 {
     for (entry, act) in table.iter().enumerate() {
         if !reserves_among(act, units) {
             let spot = Spot { kind, entry };
-            return Err(TableFault::Entry(spot, EntryFault::Undeclared));
+            return Err(TableFault::Entry(spot, EntryFault::Undeclared("reserves")));
         }
     }
     Ok(())

@@ -1,10 +1,10 @@
 //! The names that a cell declares.
-ghost use Rattle.std.specs.Prelude.{◌≡◌, ◌≢◌, [], ◌++◌, map, filter, nat_eq, OnOk, IfOk, IfErr, IsErrOf};
+ghost use Rattle.std.specs.Prelude.{◌≡◌, ◌≢◌, [], ◌++◌, map, filter, nat_eq, codes, OnOk, IfOk, IfErr, IsErrOf};
 ghost use Rattle.std.specs.Cmp.Lexicographic.{pointwise};
 ghost use Rattle.std.specs.List.{IsDistinct, list_any};
 ghost use Rattle.batch_cell.specs.Equipment.{IsDeclaredOnce, HasDeclaredUnits, is_free, has_declared_unit, resource_names, unit_names};
-ghost use Rattle.batch_reader.specs.Faults.{IsAmong, IsToldIn, IsWrong, Tells, is_of_cell};
-ghost use Rattle.batch_reader.specs.PartFaults.{FailsFirst, HasNameTwice};
+ghost use Rattle.batch_reader.specs.Faults.{IsAmong, Tells, TellsIn, is_of_cell};
+ghost use Rattle.batch_reader.specs.PartFaults.{FailsFirst, HasNameTwice, IsDuplicateAt, IsUndeclaredAt};
 ghost use Rattle.batch_reader.specs.declared.fault.EntryFault.{EntryFault};
 ghost use Rattle.batch_reader.specs.declared.fault.Spot.{Spot};
 
@@ -48,7 +48,7 @@ pub(crate) fn check_names(
 ) -> Result<(), TableFault>
     ensures ok { OnOk result (IsDeclaredOnce units.now modules.now shared.now) }
     ensures refused { IfErr result (λ fault. fault ≢ TableFault.Memory → ¬ (IsDeclaredOnce units.now modules.now shared.now)) }
-    ensures told { IfErr result (λ fault. IsAmong is_of_cell fault × IsWrong EntryFault.Duplicate fault) }
+    ensures told { IfErr result (λ fault. IsAmong is_of_cell fault × Tells (λ _. IsDuplicateAt (codes "name")) fault) }
     ensures stands { IfErr result (Tells (λ spot _. HasNameTwice (record { units = units.now; modules = modules.now; shared = shared.now }) spot.kind spot.entry)) }
 {
     let mut names = IndexSet::new(alloc);
@@ -67,7 +67,7 @@ fn add_declared(
     requires distinct { IsDistinct (pointwise nat_eq) names.old.keys }
     ensures ok { OnOk result (IsDeclaredOnce units.now modules.now shared.now) }
     ensures refused { IfErr result (λ fault. fault ≢ TableFault.Memory → ¬ (IsDeclaredOnce units.now modules.now shared.now)) }
-    ensures told { IfErr result (λ fault. IsAmong is_of_cell fault × IsWrong EntryFault.Duplicate fault) }
+    ensures told { IfErr result (λ fault. IsAmong is_of_cell fault × Tells (λ _. IsDuplicateAt (codes "name")) fault) }
     ensures stands { IfErr result (Tells (λ spot _. HasNameTwice (record { units = units.now; modules = modules.now; shared = shared.now }) spot.kind spot.entry)) }
 {
     add_names(alloc, names, units, TableKind::Unit)?;
@@ -80,7 +80,7 @@ fn add_declared(
 pub(crate) fn check_units(units: &[Unit], modules: &[Module]) -> Result<(), TableFault>
     ensures ok { OnOk result (HasDeclaredUnits units.now modules.now) }
     ensures refused { IfErr result (λ fault. ¬ (HasDeclaredUnits units.now modules.now)) }
-    ensures told { IfErr result (λ fault. (fault ≢ TableFault.Memory) × IsToldIn TableKind.Module EntryFault.Undeclared fault) }
+    ensures told { IfErr result (λ fault. (fault ≢ TableFault.Memory) × TellsIn TableKind.Module (λ _. IsUndeclaredAt (codes "unit")) fault) }
     ensures first { (spot : Spot) (wrong : EntryFault) → IsErrOf result (TableFault.Entry spot wrong)
         → FailsFirst (HasDeclaredUnits units.now) modules.now spot.entry }
 {
@@ -90,7 +90,7 @@ pub(crate) fn check_units(units: &[Unit], modules: &[Module]) -> Result<(), Tabl
                 kind: TableKind::Module,
                 entry,
             };
-            return Err(TableFault::Entry(spot, EntryFault::Undeclared));
+            return Err(TableFault::Entry(spot, EntryFault::Undeclared("unit")));
         }
     }
     Ok(())

@@ -1,9 +1,9 @@
 //! The roles of a recipe.
-ghost use Rattle.std.specs.Prelude.{◌≡◌, ◌≢◌, true, IfErr, IsErrOf, OnOk};
+ghost use Rattle.std.specs.Prelude.{◌≡◌, ◌≢◌, true, codes, IfErr, IsErrOf, OnOk};
 ghost use Rattle.std.specs.List.{list_all};
 ghost use Rattle.batch_recipe.specs.WellFormed.{are_roles, is_role_among};
-ghost use Rattle.batch_reader.specs.Faults.{IsAmong, IsRoleFault, IsToldIn, Tells, is_of_recipe};
-ghost use Rattle.batch_reader.specs.PartFaults.{FailsFirst};
+ghost use Rattle.batch_reader.specs.Faults.{IsAmong, Tells, TellsIn, is_of_recipe};
+ghost use Rattle.batch_reader.specs.PartFaults.{FailsFirst, IsRoleFault, IsUndeclaredAt};
 ghost use Rattle.batch_reader.specs.RecipeTables.{IsRoleTable};
 ghost use Rattle.batch_reader.specs.TableFaults.{IsTableFault};
 ghost use Rattle.batch_reader.specs.declared.fault.EntryFault.{EntryFault};
@@ -60,7 +60,7 @@ pub(crate) fn check_roles(alloc: Global, roles: &[Role], acts: &Acts) -> Result<
 fn check_declared(unit_procedures: &[Act], roles: &IndexSet<Name>) -> Result<(), TableFault>
     ensures ok { OnOk result (list_all (is_role_among roles.now.keys) unit_procedures.now ≡ true) }
     ensures refused { IfErr result (λ fault. list_all (is_role_among roles.now.keys) unit_procedures.now ≢ true) }
-    ensures told { IfErr result (λ fault. (fault ≢ TableFault.Memory) × IsToldIn TableKind.UnitProcedure EntryFault.Undeclared fault) }
+    ensures told { IfErr result (λ fault. (fault ≢ TableFault.Memory) × TellsIn TableKind.UnitProcedure (λ _. IsUndeclaredAt (codes "role")) fault) }
     ensures first { (spot : Spot) (wrong : EntryFault) → IsErrOf result (TableFault.Entry spot wrong)
         → FailsFirst (λ front. list_all (is_role_among roles.now.keys) front ≡ true) unit_procedures.now spot.entry }
 {
@@ -70,7 +70,7 @@ fn check_declared(unit_procedures: &[Act], roles: &IndexSet<Name>) -> Result<(),
                 kind: TableKind::UnitProcedure,
                 entry,
             };
-            return Err(TableFault::Entry(spot, EntryFault::Undeclared));
+            return Err(TableFault::Entry(spot, EntryFault::Undeclared("role")));
         }
     }
     Ok(())

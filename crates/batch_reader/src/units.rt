@@ -25,7 +25,7 @@ fn check_each(desks: &[Desk], cell: &Cell) -> Result<(), DocFault>
     for (entry, desk) in desks.iter().enumerate() {
         if !has_unit(desk, cell) {
             let kind = TableKind::Desk;
-            return Err(DocFault::Entry(Spot { kind, entry }, EntryFault::Undeclared));
+            return Err(DocFault::Entry(Spot { kind, entry }, EntryFault::Undeclared("unit")));
         }
     }
     Ok(())

@@ -2,15 +2,14 @@
 use Rattle.std.specs.Prelude.{◌≡◌, ◌≢◌, ◌<◌, ◌⊎◌, ℕ, List, Some, None, length}
 use Rattle.batch_cell.specs.LookUps.{units_of}
 use Rattle.batch_cell.specs.declared.cell.Cell.{Cell}
-use Rattle.batch_reader.specs.PartFaults.{FailsFirst}
 use Rattle.batch_reader.specs.declared.document.TheConstants.{MAX_DOCUMENT_LEN}
 use Rattle.batch_reader.specs.declared.fault.DocFault.{DocFault}
 use Rattle.batch_reader.specs.declared.fault.DocFault.TheVariants.{NotToml, Entry, Memory}
 use Rattle.batch_reader.specs.declared.fault.EntryFault.{EntryFault}
-use Rattle.batch_reader.specs.declared.fault.EntryFault.TheVariants.{OutOfLimit, Undeclared}
+use Rattle.batch_reader.specs.declared.fault.EntryFault.TheVariants.{OutOfLimit}
 use Rattle.batch_reader.specs.declared.fault.Spot.{Spot}
 use Rattle.batch_reader.specs.declared.fault.TableKind.TheVariants as table
-use Rattle.batch_reader.specs.DeskUnits.{HaveUnits}
+use Rattle.batch_reader.specs.DeskUnits.{HaveUnits, TellsNoUnit}
 use Rattle.batch_reader.specs.DesksDocument.{IsDesksDocument}
 use Rattle.batch_reader.specs.DesksFaults.{DesksFaultStands}
 use Rattle.batch_reader.specs.declared.desk_set.Desks.{Desks}
@@ -36,9 +35,9 @@ pub record RefusesDesks (path bytes : List ℕ) (h : Halt) : Type 0 where
 
 -- a desk names a unit that the cell doesn't have: the first that does
 pub record RefusesUnits (path : List ℕ) (c : Cell) (desks : Desks) (h : Halt) : Type 0 where
-  pub entry : ℕ
-  pub first : FailsFirst (HaveUnits (units_of c)) desks.desks.items entry
-  pub halts : HaltsWith (document_text path (Entry (record { kind = table.Desk; entry = entry }) Undeclared)) Fault h
+  pub fault : DocFault
+  pub told : TellsNoUnit (units_of c) desks.desks.items fault
+  pub halts : HaltsWith (document_text path fault) Fault h
 
 -- Documents
 

@@ -43,8 +43,8 @@ fn code_of(fault: EntryFault) -> &'static str
         EntryFault::MissingKey(_) => "D2",
         EntryFault::WrongKind(_) | EntryFault::NoNeed(_) => "D3",
         EntryFault::UnknownKey => "D4",
-        EntryFault::Undeclared => "D5",
-        EntryFault::Duplicate => "D6",
+        EntryFault::Undeclared(_) => "D5",
+        EntryFault::Duplicate(_) => "D6",
         EntryFault::OutOfLimit(_)
         | EntryFault::NeedOutOfLimit(_)
         | EntryFault::NumberOutOfLimit(_) => "D7",

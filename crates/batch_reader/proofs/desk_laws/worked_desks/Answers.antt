@@ -130,8 +130,8 @@ returns-clause-too_few c =
 
 pub returns-clause-second_name : goal.returns-clause-second_name
 unfolding IsDistinct
-returns-clause-second_name c = λ one two first second. (
-  (refl, record { before = (tt, tt); fails = λ h. let apart = rw (first, second) at h.0.0 in cc apart }),
+returns-clause-second_name c = λ one two key first second at_name. (
+  (at_name, record { before = (tt, tt); fails = λ h. let apart = rw (first, second) at h.0.0 in cc apart }),
   λ h. h.1.fails (tt, tt),
 )
 

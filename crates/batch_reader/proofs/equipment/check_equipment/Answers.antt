@@ -1,5 +1,5 @@
 use Rattle.std.proofs.lemmas.Result.{err_from_is_err_and}
-use Rattle.batch_reader.{proofs.FaultsAmongTables.kind_told, proofs.FaultsAmongTables.wrong_told, specs.PartFaults.Equipment, specs.PartFaults.HasNameTwice, specs.PartFaults.IsEquipmentFault, specs.PartFaults.OffersTwice, specs.declared.fault.EntryFault.TheVariants.Duplicate, specs.declared.fault.TableKind.TheVariants.Module}
+use Rattle.batch_reader.{proofs.FaultsAmongTables.kind_told, proofs.FaultsAmongTables.wrong_told, specs.PartFaults.Equipment, specs.PartFaults.HasNameTwice, specs.PartFaults.IsEquipmentFault, specs.PartFaults.OffersTwice, specs.declared.fault.TableKind.TheVariants.Module}
 use Rattle.std.proofs.Common.{inl, inr}
 use Rattle.batch_reader.proofs.equipment.check_equipment.Goals as goal
 
@@ -17,7 +17,7 @@ pub returns-in_err-check_names-clause-stands : goal.returns-in_err-check_names-c
 returns-in_err-check_names-clause-stands c =
     let p = err_from_is_err_and c.from_residual-in_err-check_names.result c.from_residual-in_err-check_names.ensures.1 in
     let e : Equipment = record { units = c.args.units.now; modules = c.args.modules.now; shared = c.args.shared.now } in
-    rw (p.1, p.2) (wrong_told Duplicate (λ spot. HasNameTwice e spot.kind spot.entry) (λ spot. IsEquipmentFault e spot.kind spot.entry) (λ spot h. inl h) _ c.in_err-check_names.ensures.told.1 c.in_err-check_names.ensures.stands)
+    rw (p.1, p.2) (wrong_told _ (λ spot _. HasNameTwice e spot.kind spot.entry) (λ spot. IsEquipmentFault e spot.kind spot.entry) (λ spot wrong is h. inr (inl (is, h))) _ c.in_err-check_names.ensures.told.1 c.in_err-check_names.ensures.stands)
 
 pub returns-in_err-check_units-clause-refused : goal.returns-in_err-check_units-clause-refused
 returns-in_err-check_units-clause-refused c =
@@ -33,4 +33,4 @@ pub returns-in_err-check_offered_phases-clause-stands : goal.returns-in_err-chec
 returns-in_err-check_offered_phases-clause-stands c =
     let p = err_from_is_err_and c.from_residual-in_err-check_offered_phases.result c.from_residual-in_err-check_offered_phases.ensures.1 in
     let e : Equipment = record { units = c.args.units.now; modules = c.args.modules.now; shared = c.args.shared.now } in
-    rw (p.1, p.2) (kind_told Module Duplicate (OffersTwice c.args.units.now c.args.modules.now) (λ spot. IsEquipmentFault e spot.kind spot.entry) (λ entry h. inr h) _ c.in_err-check_offered_phases.ensures.told c.in_err-check_offered_phases.ensures.stands)
+    rw (p.1, p.2) (kind_told Module _ (OffersTwice c.args.units.now c.args.modules.now) (λ spot. IsEquipmentFault e spot.kind spot.entry) (λ entry wrong is h. inr (inr (inr (is, h)))) _ c.in_err-check_offered_phases.ensures.told c.in_err-check_offered_phases.ensures.stands)

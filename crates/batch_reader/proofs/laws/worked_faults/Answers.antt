@@ -1,9 +1,9 @@
-use Rattle.std.proofs.Common.{◌≡◌, ◌≢◌, ◌<◌, ◌≤◌, ◌&&◌, ℕ, true, List, [], ◌∷◌, length, Option, Some, None, position, suc, zero, ap, subst, sym, inl, inr, refl, codes, arith, lit<, lit≤, ◌∙◌}
-use Rattle.std.{proofs.lemmas.Bool.false≢true, specs.Borrow.Bor, specs.List.list_all, specs.List.slice_get}
+use Rattle.std.proofs.Common.{◌≡◌, ◌≢◌, ◌<◌, ◌≤◌, ◌&&◌, ℕ, true, List, [], ◌∷◌, length, Option, Some, None, position, suc, zero, ap, subst, sym, inl, inr, refl, codes, arith, lit<, lit≤, ◌∙◌, nat_eq}
+use Rattle.std.{proofs.lemmas.Bool.false≢true, specs.Borrow.Bor, specs.Cmp.Lexicographic.pointwise, specs.List.list_all, specs.List.slice_get}
 use Rattle.batch_cell.specs.{Equipment.HasDeclaredUnits, declared.module.Module.Module}
 use Rattle.batch_text.specs.{NameText.IsName, NumberText.IsNumber}
 use Rattle.toml.specs.Data.{Data, get_item, no_members, string, table}
-use Rattle.batch_reader.{specs.ChartAnswer.IsOutsideAt, specs.ChartGrammar.IsLabel, specs.ChartGrammar.IsWideChart, specs.ChartGrammar.ReadsCond, specs.ChartGrammar.condition, specs.ChartGrammar.greater, specs.ChartGrammar.here, specs.ChartGrammar.loop as reads_loop, specs.ChartGrammar.no_offsets, specs.ChartGrammar.number, specs.ChartGrammar.whole, specs.ChartGrammar.skip as reads_skip, specs.declared.chart_reading.TheConstants.MAX_CHART_LEN, specs.Entries.IsNeedItem, specs.Keys.Key, specs.Keys.is_known, specs.Keys.keys_of, specs.Keys.needed, specs.Keys.optional, specs.NeedText.IsNeedCut, specs.NeedText.is_star, specs.RowsOfFaults.nameless, specs.RowsOfFaults.on_unit, specs.RowsOfFaults.for_role, specs.RowsOfFaults.no_turns, specs.RowsOfFaults.three_needs, specs.RowsOfFaults.with_keys, specs.TableFaults.HasTooManyUnits, specs.TableFaults.IsFaultOfTable, specs.TableFaults.IsNoNeed, specs.TableFaults.IsNoNeedCut, specs.TableFaults.IsTextThat, specs.TableFaults.NamesKey, specs.declared.fault.EntryFault.TheVariants.MissingKey, proofs.ChartOffsets.one_number, proofs.ChartOffsets.same_outside}
+use Rattle.batch_reader.{specs.ChartAnswer.IsOutsideAt, specs.ChartGrammar.IsLabel, specs.ChartGrammar.IsWideChart, specs.ChartGrammar.ReadsCond, specs.ChartGrammar.condition, specs.ChartGrammar.greater, specs.ChartGrammar.here, specs.ChartGrammar.loop as reads_loop, specs.ChartGrammar.no_offsets, specs.ChartGrammar.number, specs.ChartGrammar.whole, specs.ChartGrammar.skip as reads_skip, specs.declared.chart_reading.TheConstants.MAX_CHART_LEN, specs.Entries.IsNeedItem, specs.Keys.Key, specs.Keys.is_known, specs.Keys.keys_of, specs.Keys.needed, specs.Keys.optional, specs.NeedText.IsNeedCut, specs.NeedText.is_star, specs.PartFaults.Equipment, specs.PartFaults.HasUndeclaredUnit, specs.PartFaults.IsEquipmentFault, specs.RowsOfFaults.nameless, specs.RowsOfFaults.on_unit, specs.RowsOfFaults.for_role, specs.RowsOfFaults.no_turns, specs.RowsOfFaults.one_module, specs.RowsOfFaults.three_needs, specs.RowsOfFaults.with_keys, specs.TableFaults.HasTooManyUnits, specs.TableFaults.IsFaultOfTable, specs.TableFaults.IsNoNeed, specs.TableFaults.IsNoNeedCut, specs.TableFaults.IsTextThat, specs.TableFaults.NamesKey, specs.declared.fault.EntryFault.TheVariants.MissingKey, specs.declared.fault.EntryFault.TheVariants.Undeclared, specs.declared.fault.TableKind.TableKind, proofs.ChartOffsets.one_number, proofs.ChartOffsets.same_outside}
 use Rattle.batch_recipe.specs.{Diagram.loop, Diagram.skip, declared.condition.Condition.Condition, declared.condition.Op.TheVariants.Greater, declared.condition.Term.TheVariants.Number, WellFormed.are_distinct, WellFormed.is_among, WellFormed.reserves_among, WellFormed.reserves_once, declared.act.Act.Act, declared.need.Need.Need}
 use Rattle.batch_reader.specs.declared.fault.TableKind.TheVariants as table_kind
 use Rattle.batch_reader.specs.declared.keys.ValueForm.TheVariants as form
@@ -150,10 +150,29 @@ returns-clause-short c = λ key h.
     let long : 16384 < 16 = subst (λ t. MAX_CHART_LEN < length t) (sym text) fits.fits in omega (arith, long)
 
 pub returns-clause-undeclared : goal.returns-clause-undeclared
-returns-clause-undeclared c = λ m unit. record { before = refl; fails = unit_is_missing m unit }
+returns-clause-undeclared c = λ m key unit at_unit. inr (inr (inl (at_unit, record { before = refl; fails = unit_is_missing m unit })))
+
+-- nothing but the unit of a module is undeclared in a cell
+undeclared_unit : (e : Equipment) (kind : TableKind) (entry : ℕ) (key : Bor (List ℕ)) → IsEquipmentFault e kind entry (Undeclared key) → (key.now ≡ codes "unit") × HasUndeclaredUnit e kind entry
+undeclared_unit e kind entry key (inl h) = absurd (cc h.0)
+undeclared_unit e kind entry key (inr (inl h)) = absurd h.0
+undeclared_unit e kind entry key (inr (inr (inl h))) = h
+undeclared_unit e kind entry key (inr (inr (inr h))) = absurd h.0
 
 pub returns-clause-no_later : goal.returns-clause-no_later
-returns-clause-no_later c = λ m unit h. unit_is_missing m unit h.before
+returns-clause-no_later c = λ m key unit h. unit_is_missing m unit (undeclared_unit (one_module m) table_kind.Module 1 key h).1.before
+
+pub returns-clause-no_name : goal.returns-clause-no_name
+returns-clause-no_name c = λ e kind entry key at_name h. false≢true (ap (pointwise nat_eq (codes "unit")) (sym at_name ∙ (undeclared_unit e kind entry key h).0))
+
+pub returns-clause-no_reserve : goal.returns-clause-no_reserve
+returns-clause-no_reserve c = λ outputs acts entry key at. (
+  λ h. let same : codes "reserves" ≡ codes "reports" = sym at ∙ elim h [ inl d ↦ d.0 | inr u ↦ absurd u.0 ] in cc same,
+  λ h. let same : codes "reserves" ≡ codes "reports" = sym at ∙ elim h [ inl d ↦ absurd d.0 | inr u ↦ u.0 ] in cc same,
+)
+
+pub returns-clause-no_chart : goal.returns-clause-no_chart
+returns-clause-no_chart c = λ outputs acts entry key at h. let same : codes "chart" ≡ codes "values" = sym at ∙ elim h [ inl d ↦ absurd d.0 | inr u ↦ u.0 ] in cc same
 
 pub returns-clause-counts : goal.returns-clause-counts
 returns-clause-counts c = (inr (omega arith, refl), (λ h. elim h [ inl few ↦ omega (arith, few.0) | inr many ↦ omega (arith, many.1) ]), λ h. elim h [ inl few ↦ omega (arith, few.0) | inr many ↦ omega (arith, many.0) ])
@@ -169,10 +188,10 @@ keep_stands_twice : (step : Act) → step.reserves.items ≡ codes "KEEP" ∷ co
 keep_stands_twice step is all = false≢true (sym (ap (λ names. are_distinct names && true) is) ∙ all)
 
 pub returns-clause-undeclared_reserve : goal.returns-clause-undeclared_reserve
-returns-clause-undeclared_reserve c = λ step is. record { before = refl; fails = keep_is_missing step is }
+returns-clause-undeclared_reserve c = λ step key is at. inr (at, record { before = refl; fails = keep_is_missing step is })
 
 pub returns-clause-declared_reserve : goal.returns-clause-declared_reserve
-returns-clause-declared_reserve c = λ step is h. h.fails (keep_is_named step is)
+returns-clause-declared_reserve c = λ step key is h. elim h [ inl d ↦ d.0 | inr u ↦ u.1.fails (keep_is_named step is) ]
 
 pub returns-clause-reserve_twice : goal.returns-clause-reserve_twice
-returns-clause-reserve_twice c = λ step is. record { before = refl; fails = keep_stands_twice step is }
+returns-clause-reserve_twice c = λ step key is at. inl (at, record { before = refl; fails = keep_stands_twice step is })

@@ -1,14 +1,13 @@
-use Rattle.std.proofs.Common.{◌&&◌}
+use Rattle.std.proofs.Common.{◌&&◌, inl, inr}
 use Rattle.std.{proofs.lemmas.Result.err_from_is_err_and, specs.List.list_all}
 use Rattle.batch_recipe.specs.WellFormed.{reports_among, reports_few, reports_once}
-use Rattle.batch_reader.{proofs.Conjunctions.and_true, proofs.Conjunctions.both_true, proofs.ArrayFaults.tells_weaker, proofs.FaultsAmongTables.naming_fault, proofs.FaultsAmongTables.report_fault, proofs.FaultsAmongTables.reserve_fault, proofs.FaultsAmongTables.role_fault, specs.PartFaults.Parts}
+use Rattle.batch_reader.proofs.{Conjunctions.and_true, Conjunctions.both_true, ArrayFaults.tells_weaker}
 use Rattle.batch_reader.proofs.recipe_checks.check_recipe.Goals as goal
 
 pub returns-in_err-names-clause-stands : goal.returns-in_err-names-clause-stands
 returns-in_err-names-clause-stands c =
     let p = err_from_is_err_and c.from_residual-in_err-names.result c.from_residual-in_err-names.ensures.1 in
-    let parts : Parts = record { inputs = c.args.inputs.now; parameters = c.args.parameters.now; outputs = c.args.outputs.now; roles = c.args.roles.now; acts = c.args.acts.now } in
-    rw (p.1, p.2) (tells_weaker _ _ (λ spot. naming_fault parts spot.kind spot.entry) _ c.in_err-names.ensures.stands)
+    rw (p.1, p.2) (tells_weaker _ _ (λ spot wrong h. inr (inl h)) _ c.in_err-names.ensures.stands)
 
 pub returns-clause-ok : goal.returns-clause-ok
 returns-clause-ok c =
@@ -46,8 +45,7 @@ returns-in_err-check_reports-clause-refused c =
 pub returns-in_err-check_reports-clause-stands : goal.returns-in_err-check_reports-clause-stands
 returns-in_err-check_reports-clause-stands c =
     let p = err_from_is_err_and c.from_residual-in_err-check_reports.result c.from_residual-in_err-check_reports.ensures.1 in
-    let parts : Parts = record { inputs = c.args.inputs.now; parameters = c.args.parameters.now; outputs = c.args.outputs.now; roles = c.args.roles.now; acts = c.args.acts.now } in
-    rw (p.1, p.2) (tells_weaker _ _ (λ spot. report_fault parts spot.kind spot.entry) _ c.in_err-check_reports.ensures.stands)
+    rw (p.1, p.2) (tells_weaker _ _ (λ spot wrong h. inr (inr (inr (inl h)))) _ c.in_err-check_reports.ensures.stands)
 
 pub returns-in_err-check_roles-clause-refused : goal.returns-in_err-check_roles-clause-refused
 returns-in_err-check_roles-clause-refused c =
@@ -57,11 +55,9 @@ returns-in_err-check_roles-clause-refused c =
 pub returns-in_err-check_roles-clause-stands : goal.returns-in_err-check_roles-clause-stands
 returns-in_err-check_roles-clause-stands c =
     let p = err_from_is_err_and c.from_residual-in_err-check_roles.result c.from_residual-in_err-check_roles.ensures.1 in
-    let parts : Parts = record { inputs = c.args.inputs.now; parameters = c.args.parameters.now; outputs = c.args.outputs.now; roles = c.args.roles.now; acts = c.args.acts.now } in
-    rw (p.1, p.2) (tells_weaker _ _ (λ spot. role_fault parts spot.kind spot.entry) _ c.in_err-check_roles.ensures.stands)
+    rw (p.1, p.2) (tells_weaker _ _ (λ spot wrong h. inr (inr (inl h))) _ c.in_err-check_roles.ensures.stands)
 
 pub returns-in_err-check_reserves-clause-stands : goal.returns-in_err-check_reserves-clause-stands
 returns-in_err-check_reserves-clause-stands c =
     let p = err_from_is_err_and c.from_residual-in_err-check_reserves.result c.from_residual-in_err-check_reserves.ensures.1 in
-    let parts : Parts = record { inputs = c.args.inputs.now; parameters = c.args.parameters.now; outputs = c.args.outputs.now; roles = c.args.roles.now; acts = c.args.acts.now } in
-    rw (p.1, p.2) (tells_weaker _ _ (λ spot. reserve_fault parts spot.kind spot.entry) _ c.in_err-check_reserves.ensures.stands)
+    rw (p.1, p.2) (tells_weaker _ _ (λ spot wrong h. inr (inr (inr (inr h)))) _ c.in_err-check_reserves.ensures.stands)

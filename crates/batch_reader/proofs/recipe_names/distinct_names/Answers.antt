@@ -1,7 +1,7 @@
 use Rattle.std.proofs.Common.{◌≡◌, [], ◌++◌, ap, ◌∙◌, append-nil, List, map}
 use Rattle.std.proofs.lemmas.Result.{err_from_is_err_and}
 use Rattle.batch_recipe.specs.Conditions.{Name}
-use Rattle.batch_reader.{proofs.DistinctNames.are_distinct-from_IsDistinct, proofs.DistinctNames.names_refused, proofs.FaultsAmongTables.alone, proofs.FaultsAmongTables.twice_told, specs.PartFaults.AreDistinct, specs.PartFaults.FailsFirst, specs.declared.fault.EntryFault.TheVariants.Duplicate}
+use Rattle.batch_reader.{proofs.DistinctNames.are_distinct-from_IsDistinct, proofs.DistinctNames.names_refused, proofs.FaultsAmongTables.alone, proofs.FaultsAmongTables.twice_told, specs.PartFaults.AreDistinct, specs.PartFaults.FailsFirst}
 use Rattle.batch_reader.proofs.recipe_names.distinct_names.Goals as goal
 
 pub returns-in_err-add_names-clause-refused : goal.returns-in_err-add_names-clause-refused
@@ -21,4 +21,4 @@ pub returns-in_err-add_names-clause-stands : goal.returns-in_err-add_names-claus
 returns-in_err-add_names-clause-stands g c =
     let p = err_from_is_err_and c.from_residual.result c.from_residual.ensures.1 in
     rw (p.1, p.2) (twice_told (λ front. c.new-names.result.keys ++ map g.T.Named.name_of front) (map g.T.Named.name_of) (alone g.T.Named.name_of c.new-names.result.keys c.new-names.ensures.empty)
-    c.args.table.now c.args.kind Duplicate (λ kind entry. FailsFirst (λ front. AreDistinct (map g.T.Named.name_of front)) c.args.table.now entry) (λ entry h. h) _ (λ spot wrong is_fault. c.in_err-add_names.ensures.first spot wrong (cc is_fault)) c.in_err-add_names.ensures.told)
+    c.args.table.now c.args.kind _ (λ kind entry. FailsFirst (λ front. AreDistinct (map g.T.Named.name_of front)) c.args.table.now entry) (λ entry h. h) _ (λ spot wrong is_fault. c.in_err-add_names.ensures.first spot wrong (cc is_fault)) c.in_err-add_names.ensures.told)

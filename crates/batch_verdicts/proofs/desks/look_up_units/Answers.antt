@@ -5,7 +5,7 @@ use Rattle.batch_verdicts.proofs.desks.look_up_units.Goals as goal
 
 pub returns-in-Err-clause-refused : goal.returns-in-Err-clause-refused
 returns-in-Err-clause-refused c = record {
-  entry = c.in-Err.ensures.refused.entry;
-  first = c.in-Err.ensures.refused.first;
-  halts = subst (λ (fault : DocFault). HaltsWith (document_text c.args.path.now fault) (document_kind fault) c.document_halt.result) c.in-Err.ensures.refused.told c.document_halt.ensures;
+  fault = _;
+  told = c.in-Err.ensures.refused;
+  halts = subst (λ (fault : DocFault). HaltsWith (document_text c.args.path.now c.in-Err.fault) (document_kind fault) c.document_halt.result) c.in-Err.ensures.refused.told c.document_halt.ensures;
 }
