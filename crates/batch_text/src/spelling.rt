@@ -47,6 +47,25 @@ impl Spelling {
         }
     }
 
+    /// The same spelling, with memory of its own if it is long.
+    #[inline(always)]
+    pub(crate) fn copied(&self, alloc: Global) -> Result<Spelling, AllocError>
+        requires { IsWithinRoom self.now }
+        ensures letters { IfOk result (λ copy. letters copy ≡ letters self.now) }
+        ensures within_room { IfOk result (λ copy. IsWithinRoom copy) }
+    {
+        match self {
+            Spelling::Short { len, bytes } => Ok(Spelling::Short {
+                len: *len,
+                bytes: *bytes,
+            }),
+            Spelling::Long { len, bytes } => Ok(Spelling::Long {
+                len: *len,
+                bytes: Box::new(alloc, **bytes)?,
+            }),
+        }
+    }
+
     /// The bytes.
     #[inline(always)]
     pub(crate) fn bytes(&self) -> &[u8]
