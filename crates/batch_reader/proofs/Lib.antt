@@ -28,6 +28,7 @@ pub mod ChartSoundness
 pub mod ChartPrefixes
 pub mod ChartForms
 pub mod ChartReader
+pub mod LabelsInRows
 pub mod ChartOffsets
 pub mod DeskFaults
 pub mod DeskRefusals

@@ -50,7 +50,7 @@ fn end_case(want: &mut Want, chart: Chart, stack: &mut Vec<Frame>) -> Result<(),
 }
 
 /// Reads a comma after a chart, with a chart already wanted next. A `seq` or a `par` gets the chart in place, on the stack.
-fn take_comma(want: &mut Want, chart: Chart, stack: &mut Vec<Frame>) -> Result<(), Stop>
+pub fn take_comma(want: &mut Want, chart: Chart, stack: &mut Vec<Frame>) -> Result<(), Stop>
     requires { want_view want.old ≡ a_chart }
     ensures { Gives (λ _. after_view stack.new.items want.new) result (take_comma (diagram_of chart) (frames_view stack.old.items)) }
 {

@@ -1,17 +1,21 @@
 //! Reading a chart, one byte after another.
 ghost use Rattle.std.specs.Prelude.{◌≡◌, ◌+◌, ◌<◌, ℕ, List, length, slice_index, true, false, MatchResult};
+ghost use Rattle.batch_text.specs.NameText.{IsName};
+ghost use Rattle.batch_recipe.specs.Diagram.{label};
+ghost use Rattle.batch_reader.specs.Ascii.{comma};
 ghost use Rattle.batch_reader.specs.ChartGrammar.{is_chart_space};
-ghost use Rattle.batch_reader.specs.ChartMachine.{begin, begin_operator, finish, step, take_sign, with_after, IsGood};
+ghost use Rattle.batch_reader.specs.ChartMachine.{a_chart, begin, begin_operator, finish, step, take_comma, take_sign, with_after, word_of, IsGood};
 ghost use Rattle.batch_reader.specs.ChartView.{Gives, found_view, frames_view, lexeme_view, state_view, want_view};
 
 use crate::chart_fault::Stop;
 use crate::firsts::Firsts;
 use crate::lexeme::Lexeme;
-use crate::signs::take_sign;
+use crate::signs::{take_comma, take_sign};
 use crate::stack::pop;
 use crate::state::State;
 use crate::tokens::{end_operator, end_token, go_on};
 use crate::want::Want;
+use crate::word::{Word, name_of, word_of};
 use batch_recipe::{Chart, Op};
 use std::alloc::Global;
 
@@ -83,14 +87,40 @@ fn begin(alloc: Global, text: &[u8], state: &mut State, place: usize) -> Result<
     begin_sign(alloc, state, place, byte)
 }
 
+/// Whether a comma ends a label here, where a chart is wanted.
+#[inline(always)]
+fn ends_label(want: &Want, word: &[u8], byte: u8) -> bool
+    ensures { result ≡ true → (want_view want.now ≡ a_chart) × (word_of word.now ≡ Word.Name) × (byte ≡ comma) }
+{
+    byte == b',' && matches!(want, Want::Chart) && matches!(word_of(word), Word::Name)
+}
+
+/// Reads the comma behind the word, which is a label. Most charts are rows of labels, and a row takes each where it lies.
+fn end_label(alloc: Global, word: &[u8], state: &mut State) -> Result<(), Stop>
+    requires name { IsName word.now }
+    requires chart { want_view state.old.want ≡ a_chart }
+    ensures { (text : List ℕ) (before after : ℕ) → Gives (λ _. state_view text after state.new) result
+        (with_after before (state_view text before state.old) (take_comma (label word.now) (frames_view state.old.stack.items))) }
+{
+    let chart = Chart::Label(name_of(alloc, word)?);
+    take_comma(&mut state.want, chart, &mut state.stack)?;
+    state.lexeme = Lexeme::Nothing;
+    Ok(())
+}
+
 /// Reads the byte at the place.
-#[tactic(auto, unfolding(crate::specs::ChartMachine::step))]
+#[tactic(auto, unfolding(crate::specs::ChartMachine::step), using(crate::proofs::ChartTexts::begun_name))]
 pub fn step(alloc: Global, text: &[u8], state: &mut State, place: usize) -> Result<(), Stop>
     requires inside { place < length text.now }
     requires good { IsGood (lexeme_view text.now place state.old.lexeme) }
     ensures { Gives (λ _. state_view text.now (place + 1) state.new) result
         (step place (slice_index text.now place) (state_view text.now place state.old)) }
 {
+    if let Lexeme::Letters(start) = state.lexeme
+        && ends_label(&state.want, &text[start..place], text[place])
+    {
+        return end_label(alloc, &text[start..place], state);
+    }
     if state.lexeme.continues(text[place]) {
         return go_on(text, state, place);
     }

@@ -174,6 +174,7 @@ fn next_number(nodes: &[Entry]) -> usize {
 
 /// Adds the nodes of the act that the label names. If there is none, it adds a node without nodes below it.
 #[cycle(grow)]
+#[inline(always)]
 fn grow_label(
     alloc: Global,
     nodes: &mut Vec<Entry>,
@@ -205,6 +206,27 @@ fn grow_label(
                 }
             },
         },
+    }
+}
+
+/// Adds the nodes of a part of a chart. Most are labels, whose nodes are added without a call.
+#[cycle(grow)]
+#[inline(always)]
+fn grow_part(
+    alloc: Global,
+    nodes: &mut Vec<Entry>,
+    conditions: &mut Vec<NodeCondition>,
+    labels: &Labels<'_>,
+    part: &Chart,
+    seat: Seat,
+) -> Result<(), OutlineFault>
+    requires { length nodes.old.items ≤ MAX_NODES }
+    ensures grown { HasGrown nodes.old.items (chart_entries labels.now.acts.now seat.level seat.unit (length nodes.old.items) (length conditions.old.items) seat.parent seat.child (diagram_of part.now)) nodes.new.items result }
+    ensures added { HasAdded conditions.old.items (chart_conditions labels.now.acts.now seat.level (diagram_of part.now)) conditions.new.items result }
+{
+    match part {
+        Chart::Label(name) => grow_label(alloc, nodes, conditions, labels, name, seat),
+        _ => grow(alloc, nodes, conditions, labels, part, seat),
     }
 }
 
@@ -250,7 +272,7 @@ fn grow_each(
 {
     let mut child = 0;
     for part in parts {
-        grow(
+        grow_part(
             alloc,
             nodes,
             conditions,
@@ -310,7 +332,7 @@ fn grow_choices(
 {
     let mut child = 0;
     for choice in choices {
-        grow(
+        grow_part(
             alloc,
             nodes,
             conditions,

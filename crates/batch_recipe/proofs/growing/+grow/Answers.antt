@@ -23,18 +23,18 @@ grow_act-grow-requires t c =
     let e : counted_act (counted_name (tables_from c.args.labels.now.acts.now c.args.seat.level)) c.args.act.now ≡ 1 + counted (counted_name (tables_from c.args.labels.now.acts.now c.args.seat.level)) (diagram_of c.in-Follows.chart) = rw c.in-Follows.is refl in
     (omega (arith, e), c.in_ok-node.ensures.2)
 
-pub grow_each-grow-requires : goal.grow_each-grow-requires
-grow_each-grow-requires t c =
+pub grow_each-grow_part-requires : goal.grow_each-grow_part-requires
+grow_each-grow_part-requires t c =
     let e = counted_at (counted_name (tables_from c.args.labels.now.acts.now c.args.seat.level)) c.args.parts.now c.loop-part.part-index c.part-item.result c.loop-part-test.true c.part-item.is in
     (omega (arith, e), c.loop-part.invariant.small)
 
-pub grow_choices-grow-requires : goal.grow_choices-grow-requires
-grow_choices-grow-requires t c =
+pub grow_choices-grow_part-requires : goal.grow_choices-grow_part-requires
+grow_choices-grow_part-requires t c =
     let e = counted_choice (counted_name (tables_from c.args.labels.now.acts.now c.args.seat.level)) c.args.choices.now c.args.last.now c.loop-choice.choice-index c.choice-item.result c.loop-choice-test.true c.choice-item.is in
     (omega (arith, e), c.loop-choice.invariant.small)
 
-pub grow_choices-grow-requires-2 : goal.grow_choices-grow-requires-2
-grow_choices-grow-requires-2 t c =
+pub grow_choices-grow-requires : goal.grow_choices-grow-requires
+grow_choices-grow-requires t c =
     let e = counted_last (counted_name (tables_from c.args.labels.now.acts.now c.args.seat.level)) c.args.choices.now c.args.last.now in
     (omega (arith, e), c.loop-choice.invariant.small)
 
@@ -71,14 +71,14 @@ grow_each-loop-part-init t c = record {
 pub grow_each-loop-part-preserved : goal.grow_each-loop-part-preserved
 grow_each-loop-part-preserved t c =
     KeepsGrowing-more c.args.labels.now.acts.now c.args.seat.level c.args.seat.unit c.args.seat.parent c.args.parts.now c.args.nodes.now.items c.loop-part.nodes.items c.args.conditions.now.items c.loop-part.conditions.items c.loop-part.part-index c.loop-part.child c.loop-part.invariant
-    c.part-item.result c.loop-part-test.true c.part-item.is c.grow.new.nodes.items c.grow.new.conditions.items c.in_ok-grow.ensures.grown c.in_ok-grow.ensures.added
+    c.part-item.result c.loop-part-test.true c.part-item.is c.grow_part.new.nodes.items c.grow_part.new.conditions.items c.in_ok-grow_part.ensures.grown c.in_ok-grow_part.ensures.added
 
-pub grow_each-returns-in_err-grow-clause-grown : goal.grow_each-returns-in_err-grow-clause-grown
-grow_each-returns-in_err-grow-clause-grown t c =
+pub grow_each-returns-in_err-grow_part-clause-grown : goal.grow_each-returns-in_err-grow_part-clause-grown
+grow_each-returns-in_err-grow_part-clause-grown t c =
     let p = err_from_is_err_and c.from_residual.result c.from_residual.ensures.1 in
     rw (p.1, p.2)
     (KeepsGrowing-stop c.args.labels.now.acts.now c.args.seat.level c.args.seat.unit c.args.seat.parent c.args.parts.now c.args.nodes.now.items c.loop-part.nodes.items c.args.conditions.now.items c.loop-part.conditions.items c.loop-part.part-index c.loop-part.child c.loop-part.invariant
-    c.part-item.result c.loop-part-test.true c.part-item.is c.grow.new.nodes.items c.in_err-grow.field-0.0 c.in_err-grow.ensures.grown)
+    c.part-item.result c.loop-part-test.true c.part-item.is c.grow_part.new.nodes.items c.in_err-grow_part.field-0.0 c.in_err-grow_part.ensures.grown)
 
 pub grow_each-returns-clause-grown : goal.grow_each-returns-clause-grown
 grow_each-returns-clause-grown t c = KeepsGrowing-all c.args.labels.now.acts.now c.args.seat.level c.args.seat.unit c.args.seat.parent c.args.parts.now c.args.nodes.now.items c.loop-part.nodes.items c.args.conditions.now.items c.loop-part.conditions.items c.loop-part.part-index c.loop-part.child c.loop-part.invariant c.loop-part-test.false
@@ -88,7 +88,7 @@ grow_each-returns-clause-added t c = KeepsGrowing-told c.args.labels.now.acts.no
 
 pub grow_choices-overflow_add-child : goal.grow_choices-overflow_add-child
 grow_choices-overflow_add-child t c =
-    let h = KeepsChoosing-room c.args.labels.now.acts.now c.args.seat.level c.args.seat.unit c.args.seat.parent c.args.choices.now c.args.last.now c.args.nodes.now.items c.loop-choice.nodes.items c.args.conditions.now.items c.loop-choice.conditions.items c.loop-choice.choice-index c.loop-choice.child c.loop-choice.invariant c.grow.new.nodes.items in
+    let h = KeepsChoosing-room c.args.labels.now.acts.now c.args.seat.level c.args.seat.unit c.args.seat.parent c.args.choices.now c.args.last.now c.args.nodes.now.items c.loop-choice.nodes.items c.args.conditions.now.items c.loop-choice.conditions.items c.loop-choice.choice-index c.loop-choice.child c.loop-choice.invariant c.grow_part.new.nodes.items in
     omega (arith, h)
 
 pub grow_choices-loop-choice-init : goal.grow_choices-loop-choice-init
@@ -107,24 +107,24 @@ grow_choices-loop-choice-init t c = record {
 pub grow_choices-loop-choice-preserved : goal.grow_choices-loop-choice-preserved
 grow_choices-loop-choice-preserved t c =
     KeepsChoosing-more c.args.labels.now.acts.now c.args.seat.level c.args.seat.unit c.args.seat.parent c.args.choices.now c.args.last.now c.args.nodes.now.items c.loop-choice.nodes.items c.args.conditions.now.items c.loop-choice.conditions.items c.loop-choice.choice-index c.loop-choice.child c.loop-choice.invariant
-    c.grow.new.nodes.items c.choice-item.result c.loop-choice-test.true c.choice-item.is c.grow.new.conditions.items c.in_ok-grow.ensures.grown c.in_ok-grow.ensures.added
+    c.grow_part.new.nodes.items c.choice-item.result c.loop-choice-test.true c.choice-item.is c.grow_part.new.conditions.items c.in_ok-grow_part.ensures.grown c.in_ok-grow_part.ensures.added
 
-pub grow_choices-returns-in_err-grow-clause-grown : goal.grow_choices-returns-in_err-grow-clause-grown
-grow_choices-returns-in_err-grow-clause-grown t c =
+pub grow_choices-returns-in_err-grow_part-clause-grown : goal.grow_choices-returns-in_err-grow_part-clause-grown
+grow_choices-returns-in_err-grow_part-clause-grown t c =
     let p = err_from_is_err_and c.from_residual.result c.from_residual.ensures.1 in
     rw (p.1, p.2)
     (KeepsChoosing-stop c.args.labels.now.acts.now c.args.seat.level c.args.seat.unit c.args.seat.parent c.args.choices.now c.args.last.now c.args.nodes.now.items c.loop-choice.nodes.items c.args.conditions.now.items c.loop-choice.conditions.items c.loop-choice.choice-index c.loop-choice.child c.loop-choice.invariant
-    c.grow.new.nodes.items c.choice-item.result c.loop-choice-test.true c.choice-item.is c.in_err-grow.field-0.0 c.in_err-grow.ensures.grown)
+    c.grow_part.new.nodes.items c.choice-item.result c.loop-choice-test.true c.choice-item.is c.in_err-grow_part.field-0.0 c.in_err-grow_part.ensures.grown)
 
 pub grow_choices-returns-clause-grown : goal.grow_choices-returns-clause-grown
 grow_choices-returns-clause-grown t c =
     KeepsChoosing-last c.args.labels.now.acts.now c.args.seat.level c.args.seat.unit c.args.seat.parent c.args.choices.now c.args.last.now c.args.nodes.now.items c.loop-choice.nodes.items c.args.conditions.now.items c.loop-choice.conditions.items c.loop-choice.choice-index c.loop-choice.child c.loop-choice.invariant
-    c.grow-2.new.nodes.items c.loop-choice-test.false c.grow-2.result c.grow-2.ensures.grown
+    c.grow.new.nodes.items c.loop-choice-test.false c.grow.result c.grow.ensures.grown
 
 pub grow_choices-returns-clause-added : goal.grow_choices-returns-clause-added
 grow_choices-returns-clause-added t c =
     KeepsChoosing-told c.args.labels.now.acts.now c.args.seat.level c.args.seat.unit c.args.seat.parent c.args.choices.now c.args.last.now c.args.nodes.now.items c.loop-choice.nodes.items c.args.conditions.now.items c.loop-choice.conditions.items c.loop-choice.choice-index c.loop-choice.child c.loop-choice.invariant
-    c.grow-2.new.nodes.items c.loop-choice-test.false c.grow-2.new.conditions.items c.grow-2.result c.grow-2.ensures.added
+    c.grow.new.nodes.items c.loop-choice-test.false c.grow.new.conditions.items c.grow.result c.grow.ensures.added
 
 pub grow_label-returns-in-None-number_of-clause-grown : goal.grow_label-returns-in-None-number_of-clause-grown
 grow_label-returns-in-None-number_of-clause-grown t c =
@@ -175,8 +175,14 @@ grow_label-returns-in-Some-get-clause-added t c =
     (sym (some_act_told c.args.labels.now.acts.now c.args.seat.level c.args.name.now c.in-Some.table c.in-Some.is c.in-Some-number_of.number number c.in-Some-get.act.now c.below-level.result c.below-level.ensures got))
     c.grow_act.ensures.added
 
+pub grow_part-returns-in-Label-clause-grown : goal.grow_part-returns-in-Label-clause-grown
+grow_part-returns-in-Label-clause-grown t c = rw (c.in-Label.is, diagram_of-label c.in-Label.name) c.grow_label.ensures.grown
+
 pub grow-returns-in-Label-clause-grown : goal.grow-returns-in-Label-clause-grown
 grow-returns-in-Label-clause-grown t c = rw (c.in-Label.is, diagram_of-label c.in-Label.name) c.grow_label.ensures.grown
+
+pub grow_part-returns-in-Label-clause-added : goal.grow_part-returns-in-Label-clause-added
+grow_part-returns-in-Label-clause-added t c = rw (c.in-Label.is, diagram_of-label c.in-Label.name) c.grow_label.ensures.added
 
 pub grow-returns-in-Label-clause-added : goal.grow-returns-in-Label-clause-added
 grow-returns-in-Label-clause-added t c = rw (c.in-Label.is, diagram_of-label c.in-Label.name) c.grow_label.ensures.added
