@@ -1,8 +1,7 @@
 -- The table has each of the 256 bytes as the definition does, by computing.
 use Rattle.std.proofs.Common.{◌≡◌, ℕ, ◌==◌, ◌<◌, Bool, true, false, cond, map, not, get_or, refl, sym, ap, ◌∙◌, arith}
 use Rattle.std.{proofs.lemmas.Bool.eqb-true, proofs.lemmas.Bool.false≢true, proofs.lemmas.List.FromFn.get_or-map-range_with_len, specs.List.range_with_len}
-use Rattle.batch_text.specs.NameText.{is_name_byte}
-use Rattle.batch_text.specs.declared.name.TheConstants.{NAME_BYTES}
+use Rattle.batch_text.specs.{NameText.is_name_byte, declared.name.TheConstants.NAME_BYTES}
 use Rattle.batch_text.proofs.name.is_name_byte.Goals as goal
 
 -- the byte itself if it may stand in a name, else a comma
