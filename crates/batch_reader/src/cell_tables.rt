@@ -108,6 +108,7 @@ impl FromTable for Shared {
 fn capacity_at(table: &Table, spot: Spot) -> Result<u32, TableFault>
     ensures ok { IfOk result (HasNumber (codes "capacity") (table_view table.now) 1 MAX_CAPACITY) }
     ensures refused { IfErr result (λ fault. (number : ℕ) → ¬ (HasNumber (codes "capacity") (table_view table.now) 1 MAX_CAPACITY number)) }
+    ensures no_memory { IfErr result (λ fault. fault ≢ TableFault.Memory) }
     ensures told { IfErr result (TellsAt spot (IsKeyFault (needed (codes "capacity") (ValueForm.Number 1 MAX_CAPACITY)) (table_view table.now))) }
 {
     let capacity = number_at(table, "capacity", 1, u64::from(MAX_CAPACITY), spot)?;

@@ -50,6 +50,7 @@ pub(crate) fn lag_at(table: &Table, spot: Spot) -> Result<usize, TableFault>
     ensures ok { IfOk result (HasLag (table_view table.now)) }
     ensures some { IfOk result (λ lag. 1 ≤ lag) }
     ensures few { IfOk result (λ lag. lag ≤ MAX_LAG) }
+    ensures no_memory { IfErr result (λ fault. fault ≢ TableFault.Memory) }
     ensures told { IfErr result (TellsAt spot (IsKeyFault (optional (codes "lag") (ValueForm.Number 1 MAX_LAG)) (table_view table.now))) }
 {
     if !has_key(table, "lag") {

@@ -134,6 +134,7 @@ fn read_resource(alloc: Global, text: &[u8], number: usize, spot: Spot) -> Resul
 fn read_units(text: &[u8], number: usize, spot: Spot) -> Result<u32, TableFault>
     ensures ok { IfOk result (λ units. IsUnits text.now units) }
     ensures refused { IfErr result (λ fault. (units : ℕ) → ¬ (IsUnits text.now units)) }
+    ensures no_memory { IfErr result (λ fault. fault ≢ TableFault.Memory) }
     ensures told { IfErr result (TellsAt spot (IsUnitsFault number text.now)) }
 {
     match read_number(text, u64::from(MAX_NEED_UNITS)) {

@@ -67,6 +67,7 @@ fn check_counts(
     ensures some_acts { OnOk result ((0 < length acts.now.unit_procedures.items) × (0 < length acts.now.operations.items) × (0 < length acts.now.phases.items)) }
     ensures few_acts { OnOk result ((length acts.now.unit_procedures.items ≤ MAX_ACTS) × (length acts.now.operations.items ≤ MAX_ACTS) × (length acts.now.phases.items ≤ MAX_ACTS)) }
     ensures refused { IfErr result (λ fault. ¬ (IsSoundRecipe inputs.now parameters.now outputs.now roles.now acts.now)) }
+    ensures no_memory { IfErr result (λ fault. fault ≢ TableFault.Memory) }
     ensures told { IfErr result (IsAmong is_of_recipe) }
     ensures stands { IfErr result (Tells (λ spot. IsPartFault (record { inputs = inputs.now; parameters = parameters.now; outputs = outputs.now; roles = roles.now; acts = acts.now }) spot.kind spot.entry)) }
 {

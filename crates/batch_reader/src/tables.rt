@@ -88,6 +88,7 @@ pub fn check_count(
 ) -> Result<(), TableFault>
     ensures ok { OnOk result ((least ≤ count) × (count ≤ most)) }
     ensures refused { IfErr result (λ fault. ¬ ((least ≤ count) × (count ≤ most))) }
+    ensures no_memory { IfErr result (λ fault. fault ≢ TableFault.Memory) }
     ensures told { IfErr result (λ fault. IsToldIn kind (EntryFault.OutOfLimit None) fault × Tells (λ spot _. IsCountFault least most count spot.entry) fault) }
 {
     if count < least {
