@@ -1,5 +1,5 @@
 //! The names of desks.
-ghost use Rattle.std.specs.Prelude.{◌≡◌, nat_eq, OnOk, IfErr};
+ghost use Rattle.std.specs.Prelude.{◌≡◌, ◌≢◌, nat_eq, OnOk, IfErr};
 ghost use Rattle.std.specs.Cmp.Lexicographic.{pointwise};
 ghost use Rattle.std.specs.List.{list_any};
 ghost use Rattle.batch_reader.specs.Faults.{TellsIn};
@@ -13,6 +13,7 @@ use batch_text::Name;
 
 /// Tests that the names of desks differ. Of at most 64 each is compared with those before it, which takes no memory.
 pub(crate) fn check_names(desks: &[Desk]) -> Result<(), TableFault>
+    ensures no_memory { IfErr result (λ fault. fault ≢ TableFault.Memory) }
     ensures distinct { OnOk result (HaveDistinctNames desks.now) }
     ensures told { IfErr result (TellsIn TableKind.Desk (HasDeskNameTwice desks.now)) }
 {
