@@ -14,6 +14,7 @@ use batch_text::Name;
 pub(crate) fn check_reports(outputs: &[Name], acts: &Acts) -> Result<(), TableFault>
     ensures ok { OnOk result ((list_all reports_once acts.now.phases.items && list_all (reports_among outputs.now) acts.now.phases.items) ≡ true) }
     ensures refused { IfErr result (λ fault. (list_all reports_once acts.now.phases.items && list_all (reports_among outputs.now) acts.now.phases.items) ≢ true) }
+    ensures no_memory { IfErr result (λ fault. fault ≢ TableFault.Memory) }
     ensures told { IfErr result (IsAmong is_of_recipe) }
     ensures stands { IfErr result (Tells (λ spot. IsReportFault outputs.now acts.now spot.kind spot.entry)) }
 {
@@ -25,6 +26,7 @@ pub(crate) fn check_reports(outputs: &[Name], acts: &Acts) -> Result<(), TableFa
 fn check_once(phases: &[Act]) -> Result<(), TableFault>
     ensures ok { OnOk result (list_all reports_once phases.now ≡ true) }
     ensures refused { IfErr result (λ fault. list_all reports_once phases.now ≢ true) }
+    ensures no_memory { IfErr result (λ fault. fault ≢ TableFault.Memory) }
     ensures told { IfErr result (TellsIn TableKind.Phase (λ _. IsDuplicateAt (codes "reports"))) }
     ensures stands { IfErr result (Tells (λ spot _. FailsFirst (λ front. list_all reports_once front ≡ true) phases.now spot.entry)) }
 {
@@ -44,6 +46,7 @@ fn check_once(phases: &[Act]) -> Result<(), TableFault>
 fn check_declared(outputs: &[Name], phases: &[Act]) -> Result<(), TableFault>
     ensures ok { OnOk result (list_all (reports_among outputs.now) phases.now ≡ true) }
     ensures refused { IfErr result (λ fault. list_all (reports_among outputs.now) phases.now ≢ true) }
+    ensures no_memory { IfErr result (λ fault. fault ≢ TableFault.Memory) }
     ensures told { IfErr result (TellsIn TableKind.Phase (λ _. IsUndeclaredAt (codes "reports"))) }
     ensures stands { IfErr result (Tells (λ spot _. FailsFirst (λ front. list_all (reports_among outputs.now) front ≡ true) phases.now spot.entry)) }
 {

@@ -19,6 +19,7 @@ pub(crate) fn check_reserves(acts: &Acts) -> Result<(), TableFault>
     requires { reserves_none acts.now.procedure ≡ true }
     ensures ok { OnOk result (are_reserves acts.now ≡ true) }
     ensures refused { IfErr result (λ fault. are_reserves acts.now ≢ true) }
+    ensures no_memory { IfErr result (λ fault. fault ≢ TableFault.Memory) }
     ensures told { IfErr result (IsAmong is_of_recipe) }
     ensures stands { IfErr result (Tells (λ spot. HasReserveFault acts.now spot.kind spot.entry)) }
 {
@@ -32,6 +33,7 @@ pub(crate) fn check_reserves(acts: &Acts) -> Result<(), TableFault>
 fn check_table(units: &[Act], table: &[Act], kind: TableKind) -> Result<(), TableFault>
     ensures ok { OnOk result (reserve_well (act_names units.now) table.now ≡ true) }
     ensures refused { IfErr result (λ fault. reserve_well (act_names units.now) table.now ≢ true) }
+    ensures no_memory { IfErr result (λ fault. fault ≢ TableFault.Memory) }
     ensures told { IfErr result (TellsIn kind (IsReserveFaultOf (act_names units.now) table.now)) }
 {
     check_once(table, kind)?;
@@ -42,6 +44,7 @@ fn check_table(units: &[Act], table: &[Act], kind: TableKind) -> Result<(), Tabl
 fn check_once(table: &[Act], kind: TableKind) -> Result<(), TableFault>
     ensures ok { OnOk result (list_all reserves_once table.now ≡ true) }
     ensures refused { IfErr result (λ fault. list_all reserves_once table.now ≢ true) }
+    ensures no_memory { IfErr result (λ fault. fault ≢ TableFault.Memory) }
     ensures told { IfErr result (TellsIn kind (λ _. IsDuplicateAt (codes "reserves"))) }
     ensures stands { IfErr result (Tells (λ spot _. FailsFirst (λ front. list_all reserves_once front ≡ true) table.now spot.entry)) }
 {
@@ -58,6 +61,7 @@ fn check_once(table: &[Act], kind: TableKind) -> Result<(), TableFault>
 fn check_declared(units: &[Act], table: &[Act], kind: TableKind) -> Result<(), TableFault>
     ensures ok { OnOk result (list_all (reserves_among (act_names units.now)) table.now ≡ true) }
     ensures refused { IfErr result (λ fault. list_all (reserves_among (act_names units.now)) table.now ≢ true) }
+    ensures no_memory { IfErr result (λ fault. fault ≢ TableFault.Memory) }
     ensures told { IfErr result (TellsIn kind (λ _. IsUndeclaredAt (codes "reserves"))) }
     ensures stands { IfErr result (Tells (λ spot _. FailsFirst (λ front. list_all (reserves_among (act_names units.now)) front ≡ true) table.now spot.entry)) }
 {

@@ -1,6 +1,6 @@
 use Rattle.std.proofs.Common.{◌≡◌, ◌+◌, ap}
 use Rattle.std.specs.Prelude.{slice_index, slice_range}
-use Rattle.batch_reader.{specs.ChartMachine.letters, specs.ChartMachine.step, specs.ChartView.frames_view, specs.ChartView.lexeme_view, specs.ChartView.want_view, proofs.LabelsInRows.comma_behind_label}
+use Rattle.batch_reader.{specs.ChartMachine.letters, specs.ChartView.frames_view, specs.ChartView.lexeme_view, specs.ChartView.want_view, proofs.LabelsInRows.comma_behind_label}
 use Rattle.batch_reader.proofs.steps.step.Goals as goal
 
 pub returns : goal.returns
