@@ -173,6 +173,9 @@ module _ (ns : List Entry) (doc : Recipe) (xs : List Stage) (from : ℕ) (lives 
         small = omega (arith, f.asks.0, lives.1.small);
       }
 
+  pub waiting-there : (k : ℕ) → IsFoundFirst ns doc xs (waits_from from) (Some k) → (t : Tree) → IsLaid ns doc t → IsAlive t xs → (i : ℕ) × AsksAt t (meaning t 0 xs) k i
+  waiting-there k found t laid alive = let there = found-at ns doc xs t laid alive from k found in (there.need, there.asks)
+
   pub waiting-none : IsFoundFirst ns doc xs (waits_from from) None → IsFirstWaiting ns doc xs from None
   waiting-none found =
       record { some = tt; before = tt; none = λ e t laid alive j i a h. after-none ns doc xs t laid alive from found j i a h; waits = tt; small = tt }

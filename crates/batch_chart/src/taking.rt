@@ -101,6 +101,9 @@ pub fn forget(held: &mut VecDeque<Passed>, stages: &[Stage])
     ensures items { held.new.items ≡ still_held stages.now held.old.items }
     ensures capacity { deque_capacity held.new ≡ deque_capacity held.old }
 {
+    if held.is_empty() {
+        return;
+    }
     held.retain(|passed| !is_ready_at(stages, passed.to));
 }
 

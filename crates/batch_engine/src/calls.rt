@@ -67,7 +67,7 @@ impl Engine {
         }
         let reply = self.control.answer_event(event, &self.holders);
         self.control.recall_invariant();
-        mark_answered(&mut self.marks, &self.control, reply);
+        mark_answered(&mut self.marks, &self.control, &reply);
         reply
     }
 

@@ -58,8 +58,8 @@ fn mark_firsts(marks: &mut Marks, control: &Control)
 
 /// Marks the batches that an event has given a move.
 #[inline(always)]
-pub fn mark_answered(marks: &mut Marks, control: &Control, reply: Reply)
-    ensures { AreAnswerMarked control.now reply marks.new }
+pub fn mark_answered(marks: &mut Marks, control: &Control, reply: &Reply)
+    ensures { AreAnswerMarked control.now reply.now marks.new }
 {
     if let Some(number) = reply.batch() {
         mark_number(marks, control, number);

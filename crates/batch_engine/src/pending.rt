@@ -130,6 +130,19 @@ impl Control {
         None
     }
 
+    /// The same, without a call for a batch that waits for nothing, as most do that have no move of their own.
+    #[inline(always)]
+    fn next_grant(&self, batch: &Batch) -> Option<(u16, u16, u32)>
+        requires { IsBatch self.now batch.now }
+        ensures { IsFirstGrant self.now batch.now result }
+    {
+        let chart = self.cleared.recipe(batch.recipe);
+        if batch.running.awaits_none(chart) {
+            return None;
+        }
+        self.first_grant(batch)
+    }
+
     /// The next move of the batch at an index.
     #[inline(always)]
     fn batch_step(&self, index: usize) -> Option<Step>
@@ -144,13 +157,22 @@ impl Control {
         if let Some(made) = batch.running.next_move(chart, batch.state) {
             return Some(Step::Own { index, made });
         }
-        let (node, resource, units) = self.first_grant(batch)?;
+        let (node, resource, units) = self.next_grant(batch)?;
         Some(Step::Grant {
             index,
             node,
             resource,
             units,
         })
+    }
+
+    /// The same by a call, for a search that rarely finds a mark.
+    #[inline(never)]
+    fn step_of(&self, index: usize) -> Option<Step>
+        requires { index < length self.now.batches }
+        ensures { IsBatchStep self.now index result }
+    {
+        self.batch_step(index)
     }
 
     /// The next step: that of the first marked batch that has one. The marks of the batches before it, which have no move, are removed. So
@@ -193,7 +215,7 @@ impl Control {
             if marked >= self.batches.len() {
                 return None;
             }
-            if let Some(step) = self.batch_step(marked) {
+            if let Some(step) = self.step_of(marked) {
                 return Some(step);
             }
             from = marked + 1;

@@ -4,7 +4,7 @@ ghost use Rattle.std.specs.Prelude.{◌≡◌, ◌≤◌, [], Some, take};
 use std::io::{Result, Write};
 
 /// The most bytes that wait to be written. Few lines are longer.
-pub(crate) const FULL: usize = 1408;
+pub(crate) const FULL: usize = 3456;
 
 /// Room for a line more, and for what is copied beyond its end.
 const ROOM: usize = FULL + 640;
@@ -14,7 +14,7 @@ const ROOM: usize = FULL + 640;
 pub(crate) struct LineRoom {
     pub(crate) len: usize,
     pub(crate) bytes: [u8; ROOM],
-    ghost few: { len ≤ 1408 },
+    ghost few: { len ≤ 3456 },
 }
 
 impl LineRoom {

@@ -137,11 +137,16 @@ fn put_command(text: &mut [u8], at: usize, command: Command) -> usize
 
 /// Puts a number behind the text that ends at `at`, and returns its end.
 #[inline(always)]
+#[tactic(auto, using(crate::proofs::Numbers::digit_put))]
 fn put_digits(text: &mut [u8], at: usize, number: u64) -> usize
     requires { at + 20 ≤ length text.old }
     ensures end { result ≤ at + 20 }
     ensures put { take result text.new ≡ take at text.old ++ decimal number }
 {
+    if number < 10 {
+        text[at] = b'0' + number as u8;
+        return at + 1;
+    }
     let mut buffer = Buffer::new();
     let digits = buffer.format(number).as_bytes();
     let end = at + digits.len();

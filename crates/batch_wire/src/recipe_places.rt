@@ -130,7 +130,7 @@ impl RecipePlaces {
         if let Some(end) = self.end_of(node) {
             return Some(end);
         }
-        self.reach(recipe, node)
+        self.extend(recipe, node)
     }
 
     /// Puts the digits of the batch in front of the place if they aren't there, unless there is no room for them.
@@ -171,8 +171,9 @@ impl RecipePlaces {
 
     /// Caches the place of a node, made from that of the node above it, and returns the end of its text. None if there is no room for
     /// it.
+    #[inline(always)]
     #[cycle(reach)]
-    fn reach(&mut self, recipe: &Recipe, node: u16) -> Option<usize>
+    fn extend(&mut self, recipe: &Recipe, node: u16) -> Option<usize>
         requires within { node < length recipe.now.outline.entries.items }
         requires known { AreKnownBy (text_of_place recipe.now) self.old }
         ensures recipe { self.new.recipe ≡ self.old.recipe }
@@ -197,6 +198,19 @@ impl RecipePlaces {
         };
         self.push_node(node, end);
         Some(end)
+    }
+
+    /// The same by a call, as a node may lie far below the last one.
+    #[cycle(reach)]
+    fn reach(&mut self, recipe: &Recipe, node: u16) -> Option<usize>
+        requires within { node < length recipe.now.outline.entries.items }
+        requires known { AreKnownBy (text_of_place recipe.now) self.old }
+        ensures recipe { self.new.recipe ≡ self.old.recipe }
+        ensures batch { self.new.batch ≡ self.old.batch }
+        ensures known { AreKnownBy (text_of_place recipe.now) self.new }
+        ensures reached { IfSome result (λ end. EndsAt (text_of_place recipe.now node) end self.new) }
+    {
+        self.extend(recipe, node)
     }
 
     /// The end of the place of the node above another one, which mostly is the last node once those after it are forgotten.

@@ -17,6 +17,7 @@ pub fn put_step(text: &mut [u8], at: usize, number: u16) -> usize
 }
 
 /// Appends a number to the text that ends at `at`, and returns the new end.
+#[tactic(auto, using(crate::proofs::Numbers::digit_put))]
 pub fn put_number(text: &mut [u8], at: usize, number: u16) -> usize
     requires { at + 5 ≤ length text.old }
     ensures end { (at ≤ result) × (result ≤ at + 5) }

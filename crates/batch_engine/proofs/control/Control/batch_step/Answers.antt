@@ -30,7 +30,7 @@ returns-in_err-node c =
     let v : EngineView = c.args.self.now in
     let b : Batch = c.index-batch.result.now in
     let s = seat (goal.at.returns-in_err-node c).After-recipe-chart in
-    let grants : IsFirstGrant v b None = subst (IsFirstGrant v b) c.in_err-node.was c.first_grant.ensures in
+    let grants : IsFirstGrant v b None = subst (IsFirstGrant v b) c.in_err-node.was c.next_grant.ensures in
     subst (IsBatchStep v c.args.index) (sym c.from_residual.ensures)
     (no-move v c.args.index b s.at (sym (c.in_default.ensures.next (tree_of v.cleared b) (model_batch v.cleared b) s.chart s.runs refl refl (recipe-batch s))) grants)
 
@@ -40,7 +40,7 @@ returns c =
     let b : Batch = c.index-batch.result.now in
     let s = seat (goal.at.returns c).After-recipe-chart in
     let own : ◌≡◌ {A = Option Moves.Move} None (own_next (model_batch v.cleared b)) = c.in_default.ensures.next (tree_of v.cleared b) (model_batch v.cleared b) s.chart s.runs refl refl (recipe-batch s) in
-    let found : IsFirstGrant v b (Some (c.in_ok-node.node, c.in_ok-node.resource, c.in_ok-node.units)) = subst (IsFirstGrant v b) c.in_ok-node.was c.first_grant.ensures in
+    let found : IsFirstGrant v b (Some (c.in_ok-node.node, c.in_ok-node.resource, c.in_ok-node.units)) = subst (IsFirstGrant v b) c.in_ok-node.was c.next_grant.ensures in
     let g = found c.args.index s.at in (
       refl,
       record {
@@ -57,8 +57,8 @@ returns c =
       },
     )
 
-pub first_grant-requires : goal.first_grant-requires
-first_grant-requires c = (c.args.index, (seat (goal.at.first_grant-requires c).After-recipe-chart).at)
+pub next_grant-requires : goal.next_grant-requires
+next_grant-requires c = (c.args.index, (seat (goal.at.next_grant-requires c).After-recipe-chart).at)
 
 pub next_move-requires : goal.next_move-requires
 next_move-requires c = (seat (goal.at.next_move-requires c).After-recipe-chart).running

@@ -2,21 +2,21 @@ use Rattle.std.proofs.Common.{◌≡◌, ◌≤◌, ℕ, [], ◌++◌, drop, tak
 use Rattle.std.proofs.lemmas.List.{drop_all}
 use Rattle.batch_wire.{specs.Known.AreKnownBy, specs.Known.EndsAt, specs.Pieces.text_of_place, specs.declared.recipe_places.RecipePlaces.RecipePlaces, proofs.PlaceCache.still_known, proofs.PlaceCache.known_further, proofs.PlaceParts.entry-at, proofs.PlaceParts.root-text, proofs.PlaceParts.text-below}
 use Rattle.batch_wire.proofs.recipe_places.RecipePlaces.+reach.Goals as goal
-use Rattle.batch_wire.proofs.recipe_places.RecipePlaces.+reach.Goals.{reach-then-node-eq0, reach-else-node-eq0+in_ok-above+else-above-gt-MAX_PLACE_END}
+use Rattle.batch_wire.proofs.recipe_places.RecipePlaces.+reach.Goals.{extend-then-node-eq0, extend-else-node-eq0+in_ok-above+else-above-gt-MAX_PLACE_END}
 
-pub reach-reach_above-requires : goal.reach-reach_above-requires
-reach-reach_above-requires t c =
+pub extend-reach_above-requires : goal.extend-reach_above-requires
+extend-reach_above-requires t c =
     let is = entry-at c.args.recipe.now c.args.node _ c.index.result.now c.from.ensures c.requires.within c.index.ensures in
     let less = (text-below c.args.recipe.now c.args.node c.index.result.now is c.if-node-eq0.false).0 in
     (omega (arith, less, c.decreases), (omega (arith, less, c.requires.within), still_known (text_of_place c.args.recipe.now) _ _ c.requires.known c.forget_past.ensures))
 
-known : (t : ℕ) (c : goal.reach-After-push_node t) → AreKnownBy (text_of_place c.args.recipe.now) c.push_node.new.self × EndsAt (text_of_place c.args.recipe.now c.args.node) c.if-node-eq0.end c.push_node.new.self
+known : (t : ℕ) (c : goal.extend-After-push_node t) → AreKnownBy (text_of_place c.args.recipe.now) c.push_node.new.self × EndsAt (text_of_place c.args.recipe.now c.args.node) c.if-node-eq0.end c.push_node.new.self
 known t c =
     let r = c.args.recipe.now in
     let e = c.index.result.now in
     let is = entry-at r c.args.node _ e c.from.ensures c.requires.within c.index.ensures in
     elim c.if-node-eq0.branch [
-      | reach-then-node-eq0 w ↦
+      | extend-then-node-eq0 w ↦
           let cut = c.forget_past.ensures in
           let none : RecipePlaces = record c.forget_past.new.self { depth = 0 } in
           let put = w.put_number-end.ensures in
@@ -28,7 +28,7 @@ known t c =
           (rw (w.self-is, w.end-is) put.put)
           (ap (λ t. t ++ decimal e.child) nothing ∙ sym (root-text r c.args.node e is w.if-node-eq0.true))
           (omega arith) (rw w.end-is (omega (arith, put.end))) (rw w.end-is (omega (arith, put.end))) room (rw w.self-is) (rw w.self-is) (rw w.self-is) (rw w.self-is) c.push_node.ensures
-      | reach-else-node-eq0+in_ok-above+else-above-gt-MAX_PLACE_END w ↦
+      | extend-else-node-eq0+in_ok-above+else-above-gt-MAX_PLACE_END w ↦
           let below = text-below r c.args.node e is w.if-node-eq0.false in
           let above = w.in_ok-above.ensures in
           let put = w.put_step-end.ensures in
@@ -39,8 +39,8 @@ known t c =
           above.reached.from (rw w.end-is put.end.0) (rw w.end-is (omega (arith, put.end.1, w.if-above-gt-MAX_PLACE_END.false))) (omega arith) (rw w.self-is) (rw w.self-is) (rw w.self-is) (rw w.self-is) c.push_node.ensures
     ]
 
-pub reach-returns-clause-known : goal.reach-returns-clause-known
-reach-returns-clause-known t c = (known t c).0
+pub extend-returns-clause-known : goal.extend-returns-clause-known
+extend-returns-clause-known t c = (known t c).0
 
-pub reach-returns-clause-reached : goal.reach-returns-clause-reached
-reach-returns-clause-reached t c = (known t c).1
+pub extend-returns-clause-reached : goal.extend-returns-clause-reached
+extend-returns-clause-reached t c = (known t c).1
