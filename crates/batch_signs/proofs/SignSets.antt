@@ -84,6 +84,16 @@ told-some n e = go (nat_eq n 0) refl
     go true f = absurd (not-one (bit_of (not (nat_eq n 0))) (ap (λ z. bit_of (not z)) f) e)
     go false f = Rattle.batch_signs.proofs.Bits.not-zero n (differs n 0 f)
 
+pub told-there : (n : ℕ) → (n ≡ 0 → ⊥) → not (nat_eq n 0) ≡ true
+told-there n some = go (nat_eq n 0) refl
+  where
+    go : (t : Bool) → nat_eq n 0 ≡ t → not (nat_eq n 0) ≡ true
+    go true f = absurd (some (nat-same n 0 f))
+    go false f = ap not f
+
+pub with-one_there : (word at : ℕ) (f : ℕ → ℕ) → ((k : ℕ) → bit_at word k ≡ with_one at f k) → word ≡ 0 → ⊥
+with-one_there word at f bits none = not-one (bit_at word at) (ap (λ z. bit_at z at) none ∙ bit_at-zero at) (bits at ∙ with-one_same at f)
+
 same-place : (w s v t : ℕ) → s < 32 → t < 32 → w * 32 + s ≡ v * 32 + t → (w ≡ v) × (s ≡ t)
 same-place w s v t l m e = (omega arith, omega arith)
 

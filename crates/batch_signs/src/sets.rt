@@ -3,7 +3,7 @@ ghost use Rattle.std.specs.Prelude.{◌≡◌, ◌<◌, ◌≤◌, ◌+◌, ◌*
 ghost use Rattle.std.specs.Int.{bit_at};
 ghost use Rattle.batch_signs.specs.SignSets.{AreAbsent, AreJoined, AreRoomFor, AreSummed, IsChangedAt, IsFirstShown, sign_shown};
 
-use crate::word::{lowest_from, with_bit_as};
+use crate::word::{lowest_from, with_bit, with_bit_as, without_bit};
 use std::alloc::{AllocError, Global};
 use std::marker::Model;
 
@@ -145,9 +145,14 @@ fn turn_signs(
     while let Some(sign) = lowest_from(turned, from) {
         let set = words[word * SIGNS + sign] ^ (1 << (node % 64));
         words[word * SIGNS + sign] = set;
-        let sets = with_bit_as(summary[sign], word, set != 0);
-        summary[sign] = sets;
-        shown = with_bit_as(shown, sign, sets != 0);
+        if set == 0 {
+            let sets = without_bit(summary[sign], word);
+            summary[sign] = sets;
+            shown = with_bit_as(shown, sign, sets != 0);
+        } else {
+            summary[sign] = with_bit(summary[sign], word);
+            shown = with_bit(shown, sign);
+        }
         from = sign + 1;
     }
     shown
