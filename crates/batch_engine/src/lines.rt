@@ -101,7 +101,6 @@ fn pass_line(batch: &Batch, node: u16, to: u16, share: (u16, u32)) -> Line
 
 impl Control {
     /// The numbers of the phase that an act of a batch runs. Those of an act that runs none name nothing.
-    #[inline(always)]
     pub(crate) fn phase_at(&self, batch: &Batch, node: u16) -> PhaseNumber
         requires { IsNodeAt self.now batch.now node }
         ensures { IsPhaseAt self.now.cleared batch.now node result.unit result.phase }
