@@ -29,9 +29,9 @@ pub record AreKnownBy (text_of : ℕ → List ℕ) (k : RecipePlaces) : Type 0 w
 abbrev pub AreKnownIn : ClearedSet → RecipePlaces → Type 0
 AreKnownIn c k = AreKnownBy (λ node. place_text (recipe_place_at c k.recipe node)) k
 
--- and of several recipes
+-- and those of all entries
 abbrev pub AreKnown : ClearedSet → KnownPlaces → Type 0
-AreKnown c k = All (AreKnownIn c) k.recipes
+AreKnown c k = All (AreKnownIn c) k.entries
 
 -- the text that waits to be written
 abbrev pub waiting_in : LineRoom → List ℕ

@@ -7,13 +7,13 @@ use crate::line_room::LineRoom;
 use crate::recipe_places::RecipePlaces;
 use crate::site::Site;
 
-/// The number of recipes with a cache entry. A cell has at most 64 units, so at most 64 recipes run on units at once.
-const RECIPES: usize = 64;
+/// The number of cache entries. A cell has at most 64 units, so at most 64 batches run phases at once.
+const ENTRIES: usize = 64;
 
-/// The cache: an entry has the place of a recipe that was written last. Recipes whose numbers are the same modulo 64 share one, in turn.
+/// The cache: an entry has the place of a batch that was written last. Batches whose numbers are the same modulo 64 share one, in turn.
 #[derive(Drop)]
 pub struct KnownPlaces {
-    pub(crate) recipes: [RecipePlaces; RECIPES],
+    pub(crate) entries: [RecipePlaces; ENTRIES],
     /// The lines that wait to be written.
     pub(crate) line: LineRoom,
 }
@@ -24,7 +24,7 @@ impl KnownPlaces {
         ensures { (cleared : ClearedSet) → AreKnown cleared result }
     {
         KnownPlaces {
-            recipes: [RecipePlaces::new(); RECIPES],
+            entries: [RecipePlaces::new(); ENTRIES],
             line: LineRoom::new(),
         }
     }
@@ -41,12 +41,12 @@ impl KnownPlaces {
     }
 }
 
-/// The index of the cache entry of a site's recipe.
+/// The index of the cache entry of a site's batch.
 pub(crate) fn seat_of(site: Option<Site>) -> usize
     ensures { result < 64 }
 {
     match site {
-        Some(site) => usize::from(site.recipe) % RECIPES,
+        Some(site) => site.batch as usize % ENTRIES,
         None => 0,
     }
 }

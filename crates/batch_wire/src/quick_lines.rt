@@ -63,6 +63,7 @@ fn put_state(text: &mut [u8], at: usize, state: State) -> usize
     }
 }
 
+/// Puts the word of any state, between a space and a line feed.
 #[inline(never)]
 fn put_any_state(text: &mut [u8], at: usize, state: State) -> usize
     requires { at + 16 ≤ length text.old }
@@ -99,6 +100,7 @@ fn put_report(text: &mut [u8], at: usize, word: Report) -> usize
     }
 }
 
+/// Puts any word of a report, between spaces.
 #[inline(never)]
 fn put_any_report(text: &mut [u8], at: usize, word: Report) -> usize
     requires { at + 16 ≤ length text.old }

@@ -45,8 +45,8 @@ pub fn write_out<W: Write>(out: &Out, cleared: &Cleared, writer: &mut W) -> Resu
 }
 
 /// Adds the line of an out to the text that waits, and writes that text if there is little room behind it. A line that is long or rare is
-/// written at once, behind the text that waits. The text of its place is put together from the recipe's cached one, and is cached in its
-/// turn. So each of many lines of a batch costs the difference of its place from the one before.
+/// written at once, behind the text that waits. The text of its place is put together from that of the batch's last line, and is cached in
+/// its turn. So each of many lines of a batch costs the difference of its place from the one before.
 // claim: record lines; line cut off
 #[inline(always)]
 pub fn add_out<W: Write>(
@@ -65,7 +65,7 @@ pub fn add_out<W: Write>(
         out,
         cleared,
         site,
-        &mut places.recipes[seat],
+        &mut places.entries[seat],
         &mut places.line,
         writer,
     )
