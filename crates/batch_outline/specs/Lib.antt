@@ -1,3 +1,4 @@
+pub mod Trimmed
 pub mod Showing
 pub mod Along
 pub mod RowsOfShowing

@@ -5,7 +5,9 @@ mod acts;
 mod lines;
 mod rows;
 mod showing;
+mod trimming;
 mod walk;
 
 pub use rows::shown_lines;
 pub use showing::show_recipes;
+pub use trimming::drop_idle_charts;

@@ -3,7 +3,8 @@ use Rattle.std.proofs.Common.{◌≡◌, ℕ, Bool, ◌+◌, ◌<◌, ◌++◌, 
 use Rattle.std.{proofs.lemmas.List.map-append, proofs.lemmas.List.take_more, specs.Prelude.String, specs.Global.Global}
 use Rattle.batch_cell.specs.declared.cell.Cell.{Cell}
 use Rattle.batch_recipe.specs.declared.recipe.Recipe.{Recipe}
-use Rattle.batch_verdicts.specs.{Every.AreLooked, Every.AreRefusalsOf, Every.HaltsAsked, Every.HaltsAtLook, Every.IsOneUnread, Every.RefusesRules, Halting.HaltsAtCell, Halting.HaltsAtRecipe, Looking.AreAllRead, Looking.IsCellLooked, Looking.IsLooked, Looking.IsReadAsked, Looking.LooksOn, Reading.AreReadWarned, Reading.Gives, Reading.IsSoWarned, Reading.IsUnread, Reading.ReadsRecipe, Reading.ReadsRecipes, Reading.Warns, declared.refusal.DocumentRefusal.DocumentRefusal, declared.refusal.Halt.Halt, declared.refusal.Halt.TheVariants.Refused, declared.refusal.Halt.TheVariants.Unread}
+use Rattle.batch_outline.specs.Trimmed.{AreTrimmedRecipes}
+use Rattle.batch_verdicts.{proofs.RecipeTexts.holds_more, specs.Every.AreKeptIf, specs.Gathering.HoldsRecipes, specs.declared.gathering.ReadRecipes.ReadRecipes, specs.Every.AreLooked, specs.Every.AreRefusalsOf, specs.Every.HaltsAsked, specs.Every.HaltsAtLook, specs.Every.IsOneUnread, specs.Every.RefusesRules, specs.Halting.HaltsAtCell, specs.Halting.HaltsAtRecipe, specs.Looking.AreAllRead, specs.Looking.IsCellLooked, specs.Looking.IsLooked, specs.Looking.IsReadAsked, specs.Looking.LooksOn, specs.Reading.AreReadWarned, specs.Reading.Gives, specs.Reading.IsSoWarned, specs.Reading.IsUnread, specs.Reading.ReadsRecipe, specs.Reading.ReadsRecipes, specs.Reading.Warns, specs.declared.refusal.DocumentRefusal.DocumentRefusal, specs.declared.refusal.Halt.Halt, specs.declared.refusal.Halt.TheVariants.Refused, specs.declared.refusal.Halt.TheVariants.Unread}
 
 -- if nothing is refused, all are read
 pub all_read : (gives : Gives) (paths : List (List ℕ)) (rs : List Recipe) (refusals : List DocumentRefusal)
@@ -29,27 +30,44 @@ refusal_more gives (p ∷ paths) rs refusals path last (inl (s, more, here, join
 refusal_more gives (p ∷ paths) rs refusals path last (inr (refusal, others, here, joined, looked)) halts =
     inr (refusal, others ++ last ∷ [], here, ap (λ xs. xs ++ last ∷ []) joined, refusal_more gives paths rs others path last looked halts)
 
+as_many : (gives : Gives) (paths : List (List ℕ)) (rs : List Recipe) (refusals : List DocumentRefusal) → AreLooked gives paths rs refusals → refusals ≡ [] → length paths ≡ length rs
+as_many gives [] rs refusals (nothing, _) is = rw nothing refl
+as_many gives (path ∷ paths) rs refusals (inl (r, more, read, joined, looked)) is = omega (arith, ap length joined, as_many gives paths more refusals looked is)
+as_many gives (path ∷ paths) rs refusals (inr (refusal, others, halts, joined, looked)) is = absurd cc
+
+some_last : (here : List DocumentRefusal) (last : DocumentRefusal) → here ++ last ∷ [] ≡ [] → ⊥
+some_last [] last is = cc
+some_last (refusal ∷ here) last is = cc
+
 -- one more document
-looks_more : (gives : Gives) (paths : List (List ℕ)) (path : List ℕ) (before : List DocumentRefusal) (rs : List Recipe) (refusals : List DocumentRefusal)
-    (recipes : List Recipe) (others : List DocumentRefusal)
-    → LooksOn gives paths before rs refusals → IsLooked gives path rs refusals recipes others → LooksOn gives (paths ++ path ∷ []) before recipes others
-looks_more gives paths path before rs refusals recipes others (here, looked, joined) (inl (r, read, grown, same)) =
-    (here, rw grown (recipe_more gives paths rs here path r looked read), same ∙ joined)
-looks_more gives paths path before rs refusals recipes others (here, looked, joined) (inr (last, halts, same, grown)) =
-    let whole : others ≡ before ++ (here ++ last ∷ []) = grown ∙ ap (λ xs. xs ++ last ∷ []) joined ∙ append_assoc before here (last ∷ []) in
-    (here ++ last ∷ [], rw same (refusal_more gives paths rs here path last looked halts), whole)
+looks_more : (gives : Gives) (paths : List (List ℕ)) (path : List ℕ) (before : List DocumentRefusal) (recipes : ReadRecipes) (refusals : List DocumentRefusal)
+    (more : ReadRecipes) (others : List DocumentRefusal)
+    → LooksOn gives paths before recipes refusals → IsLooked gives path recipes refusals more others → LooksOn gives (paths ++ path ∷ []) before more others
+looks_more gives paths path before recipes refusals more others looks (inl (r, read, adds, same)) = record {
+  whole = looks.whole ++ r ∷ [];
+  here = looks.here;
+  looked = recipe_more gives paths looks.whole looks.here path r looks.looked read;
+  joined = same ∙ looks.joined;
+  holds = λ silent. holds_more recipes more paths looks.whole path r (as_many gives paths looks.whole looks.here looks.looked silent) (looks.holds silent) adds;
+}
+looks_more gives paths path before recipes refusals more others looks (inr (last, halts, same, grown)) = record {
+  whole = looks.whole;
+  here = looks.here ++ last ∷ [];
+  looked = refusal_more gives paths looks.whole looks.here path last looks.looked halts;
+  joined = grown ∙ ap (λ xs. xs ++ last ∷ []) looks.joined ∙ append_assoc before looks.here (last ∷ []);
+  holds = λ silent. absurd (some_last looks.here last silent);
+}
 
 pub looks_next : {X : Type 0} (gives : Gives) (text_of : X → List ℕ) (paths : List X) (i : ℕ) (path : X) (text : List ℕ) (before : List DocumentRefusal)
-    (rs : List Recipe) (refusals : List DocumentRefusal) (recipes : List Recipe) (others : List DocumentRefusal)
+    (recipes : ReadRecipes) (refusals : List DocumentRefusal) (more : ReadRecipes) (others : List DocumentRefusal)
     → i < length paths → path ≡ get_or paths i path → text ≡ text_of path
-    → LooksOn gives (map text_of (take i paths)) before rs refusals → IsLooked gives text rs refusals recipes others
-    → LooksOn gives (map text_of (take (i + 1) paths)) before recipes others
-looks_next gives text_of paths i path text before rs refusals recipes others within is value looked here =
-    let whole : map text_of (take (i + 1) paths) ≡ map text_of (take i paths) ++ text_of path ∷ [] =
+    → LooksOn gives (map text_of (take i paths)) before recipes refusals → IsLooked gives text recipes refusals more others
+    → LooksOn gives (map text_of (take (i + 1) paths)) before more others
+looks_next gives text_of paths i path text before recipes refusals more others within is value looked here =
+    let all : map text_of (take (i + 1) paths) ≡ map text_of (take i paths) ++ text_of path ∷ [] =
     ap (map text_of) (take_more paths i path within ∙ ap (λ p. take i paths ++ p ∷ []) (sym is)) ∙ map-append text_of (take i paths) (path ∷ []) in
-    let Whole : List (List ℕ) → Type 0 = λ ps. LooksOn gives ps before recipes others in
-    let Named : List ℕ → Type 0 = λ t. IsLooked gives t rs refusals recipes others in
-    subst Whole (sym whole) (looks_more gives (map text_of (take i paths)) (text_of path) before rs refusals recipes others looked (subst Named value here))
+    let named : IsLooked gives (text_of path) recipes refusals more others = subst (λ t. IsLooked gives t recipes refusals more others) value here in
+    rw all (looks_more gives (map text_of (take i paths)) (text_of path) before recipes refusals more others looked named)
 
 -- a document that ends it, and isn't refused, can't be read
 
@@ -62,8 +80,8 @@ recipe_unread gives path message (inl unread) = unread
 recipe_unread gives path message (inr (bytes, given, refuses)) = absurd refuses.halts
 
 -- nothing is looked at
-pub looks_at_none : (gives : Gives) (before : List DocumentRefusal) → LooksOn gives [] before [] before
-looks_at_none gives before = ([], (refl, refl), sym (append-nil before))
+pub looks_at_none : (gives : Gives) (before : List DocumentRefusal) (recipes : ReadRecipes) → HoldsRecipes recipes [] [] → LooksOn gives [] before recipes before
+looks_at_none gives before recipes holds = record { whole = []; here = []; looked = (refl, refl); joined = sym (append-nil before); holds = λ _. holds }
 
 -- one that can't be read ends it
 pub unread_at : {X : Type 0} (gives : Gives) (text_of : X → List ℕ) (paths : List X) (i : ℕ) (path : X) (h : Halt)
@@ -81,39 +99,45 @@ no_refusal [] here is = is
 no_refusal (refusal ∷ before) here is = absurd cc
 
 -- the cell and the recipes are read if nothing is refused
-pub read_whole : (gives : Gives) (cell : List ℕ) (paths : List (List ℕ)) (before : List DocumentRefusal) (c : Cell) (rs : List Recipe) (refusals : List DocumentRefusal)
-    → IsCellLooked gives cell [] (Some c) before → LooksOn gives paths before rs refusals → refusals ≡ [] → AreAllRead gives cell paths c rs
-read_whole gives cell paths before c rs refusals (read, _) (here, looked, joined) is =
-    (read, all_read gives paths rs here looked (no_refusal before here (sym joined ∙ is)))
+pub read_whole : (gives : Gives) (cell : List ℕ) (paths : List (List ℕ)) (before : List DocumentRefusal) (c : Cell) (recipes : ReadRecipes) (refusals : List DocumentRefusal)
+    → IsCellLooked gives cell [] (Some c) before → LooksOn gives paths before recipes refusals → refusals ≡ [] → AreAllRead gives cell paths c recipes
+read_whole gives cell paths before c recipes refusals (read, _) looks is =
+    let silent : looks.here ≡ [] = no_refusal before looks.here (sym looks.joined ∙ is) in
+    record {
+      whole = looks.whole;
+      cell_read = read;
+      recipes_read = all_read gives paths looks.whole looks.here looks.looked silent;
+      holds = looks.holds silent;
+    }
 
 not_none : (before here refusals : List DocumentRefusal) (refusal : DocumentRefusal) → before ≡ refusal ∷ [] → refusals ≡ before ++ here → refusals ≡ [] → ⊥
 not_none before here refusals refusal first joined is =
     let grown : refusals ≡ refusal ∷ here = joined ∙ ap (λ xs. xs ++ here) first in cc
 
 -- all refusals are reported
-pub all_refused : (gives : Gives) (cell : List ℕ) (paths : List (List ℕ)) (before : List DocumentRefusal) (c : Cell) (rs : List Recipe) (refusals : List DocumentRefusal)
-    → IsCellLooked gives cell [] (Some c) before → LooksOn gives paths before rs refusals → AreRefusalsOf gives cell paths refusals
-all_refused gives cell paths before c rs refusals (read, none) (here, looked, joined) = record {
+pub all_refused : (gives : Gives) (cell : List ℕ) (paths : List (List ℕ)) (before : List DocumentRefusal) (c : Cell) (recipes : ReadRecipes) (refusals : List DocumentRefusal)
+    → IsCellLooked gives cell [] (Some c) before → LooksOn gives paths before recipes refusals → AreRefusalsOf gives cell paths refusals
+all_refused gives cell paths before c recipes refusals (read, nothing) looks = record {
   of_cell = before;
-  of_recipes = here;
-  recipes = rs;
-  cell_refused = inl (c, read, none);
-  looked = looked;
-  joined = joined;
+  of_recipes = looks.here;
+  recipes = looks.whole;
+  cell_refused = inl (c, read, nothing);
+  looked = looks.looked;
+  joined = looks.joined;
 }
 
-pub cell_refused : (gives : Gives) (cell : List ℕ) (paths : List (List ℕ)) (before : List DocumentRefusal) (rs : List Recipe) (refusals : List DocumentRefusal)
-    → IsCellLooked gives cell [] None before → LooksOn gives paths before rs refusals → AreRefusalsOf gives cell paths refusals × ¬ (refusals ≡ [])
-cell_refused gives cell paths before rs refusals (refusal, halts, first) (here, looked, joined) = (
+pub cell_refused : (gives : Gives) (cell : List ℕ) (paths : List (List ℕ)) (before : List DocumentRefusal) (recipes : ReadRecipes) (refusals : List DocumentRefusal)
+    → IsCellLooked gives cell [] None before → LooksOn gives paths before recipes refusals → AreRefusalsOf gives cell paths refusals × ¬ (refusals ≡ [])
+cell_refused gives cell paths before recipes refusals (refusal, halts, first) looks = (
   record {
     of_cell = before;
-    of_recipes = here;
-    recipes = rs;
+    of_recipes = looks.here;
+    recipes = looks.whole;
     cell_refused = inr (refusal, halts, first);
-    looked = looked;
-    joined = joined;
+    looked = looks.looked;
+    joined = looks.joined;
   },
-  not_none before here refusals refusal first joined,
+  not_none before looks.here refusals refusal first looks.joined,
 )
 
 -- Sound recipes
@@ -121,18 +145,28 @@ cell_refused gives cell paths before rs refusals (refusal, halts, first) (here, 
 -- a fact of documents that were read
 pub so_of_asked : (all : Bool) (gives : Gives) (warns : Warns) (cell : List ℕ) (paths : List (List ℕ)) (c : Cell) (rs : List Recipe) (is_so : Cell → List Recipe → Type 0)
     → IsReadAsked all gives warns cell paths c rs → is_so c rs → IsSoWarned gives warns cell paths is_so
-so_of_asked all gives warns cell paths c rs is_so (read, kept) so =
-    record { equipment = c; recipes = rs; cell_read = read.cell_read; recipes_read = read.recipes_read; judged = (read.warned, so) }
+so_of_asked all gives warns cell paths c rs is_so asked so = record {
+  equipment = c;
+  recipes = asked.whole;
+  cell_read = asked.read.cell_read;
+  recipes_read = asked.read.recipes_read;
+  judged = (asked.read.warned, (rs, asked.trimmed, so));
+}
 
 pub judged_asked : {A : Type 0} (all : Bool) (gives : Gives) (warns : Warns) (cell : List ℕ) (paths : List (List ℕ)) (c : Cell) (rs : List Recipe)
     (refuses : Halt → Cell → List Recipe → Type 0) (r : Result A Halt) → IsReadAsked all gives warns cell paths c rs → IfErr r (λ h. refuses h c rs)
     → IfErr r (λ h. HaltsAsked all gives warns cell paths (refuses h) h)
-judged_asked all gives warns cell paths c rs refuses (Ok x) read k = tt
-judged_asked all gives warns cell paths c rs refuses (Err h) (read, kept) k =
-    inr (record { equipment = c; recipes = rs; cell_read = read.cell_read; recipes_read = read.recipes_read; judged = (read.warned, (kept, k)) })
+judged_asked all gives warns cell paths c rs refuses (Ok x) asked k = tt
+judged_asked all gives warns cell paths c rs refuses (Err h) asked k =
+    inr (so_of_asked all gives warns cell paths c rs (λ d ts. AreKeptIf all d ts × refuses h d ts) asked (asked.kept, k))
 
 -- rules are broken
-pub broken_at : (gives : Gives) (warns : Warns) (cell : List ℕ) (paths : List (List ℕ)) (c : Cell) (rs : List Recipe) (h : Halt)
-    → AreReadWarned gives warns cell paths c rs → RefusesRules c rs h → HaltsAtLook gives warns cell paths h
-broken_at gives warns cell paths c rs h read broken =
-    inr (record { equipment = c; recipes = rs; cell_read = read.cell_read; recipes_read = read.recipes_read; judged = (read.warned, broken) })
+pub broken_at : (gives : Gives) (warns : Warns) (cell : List ℕ) (paths : List (List ℕ)) (c : Cell) (whole rs : List Recipe) (h : Halt)
+    → AreReadWarned gives warns cell paths c whole → AreTrimmedRecipes whole rs → RefusesRules c rs h → HaltsAtLook gives warns cell paths h
+broken_at gives warns cell paths c whole rs h read trimmed broken = inr (record {
+  equipment = c;
+  recipes = whole;
+  cell_read = read.cell_read;
+  recipes_read = read.recipes_read;
+  judged = (read.warned, (rs, trimmed, broken));
+})

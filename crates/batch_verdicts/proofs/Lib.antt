@@ -7,7 +7,7 @@ pub mod Successes
 mod WrittenPrefix
 pub mod NodeTexts
 pub mod WarningEffects
-pub mod WarningLines
 pub mod EdgesOnCircles
 pub mod DocumentRefusals
 pub mod BrokenRules
+pub mod TrimmedSets

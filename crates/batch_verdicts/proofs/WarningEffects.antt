@@ -5,6 +5,7 @@ use Rattle.batch_cell.specs.declared.cell.Cell.{Cell}
 use Rattle.batch_recipe.specs.declared.recipe.Recipe.{Recipe}
 use Rattle.batch_verify.specs.{CertificateText.Rank, ClearedSet.ClearedSet}
 use Rattle.batch_cli.specs.CommandLine.{Judgement, check, draw, show, verify}
+use Rattle.batch_outline.specs.Trimmed.{AreTrimmedRecipes}
 use Rattle.batch_verdicts.specs.{Judging.IsClearedBy, Reading.AreCleared, Reading.AreRead, Reading.Gives, Reading.Warns, Reading.IsSoWarned, Requests.IsVerdictText, Saying.IsWarned, WarningTexts.warnings_text}
 
 -- no warning was written
@@ -43,12 +44,12 @@ verdict_more gives these those (verify cell certificate paths) text follows (is,
     (is, (set, cleared, follows _ warned))
 
 -- documents that were read and warned of make a cleared set
-pub verified : (gives : Gives) (warns : Warns) (cell certificate : List ℕ) (paths : List (List ℕ)) (c : Cell) (ranks : List Rank) (rs : List Recipe) (set : ClearedSet)
-    → set.cell ≡ c → set.recipes ≡ rs → AreRead gives cell certificate paths c ranks rs → IsClearedBy c rs ranks
-    → warns (warnings_text cell c paths rs)
-    → (set : ClearedSet) × AreCleared gives cell certificate paths set × warns (warnings_text cell set.cell paths set.recipes)
-verified gives warns cell certificate paths c ranks rs set same_cell same_recipes read cleared warned = (
+pub verified : (gives : Gives) (warns : Warns) (cell certificate : List ℕ) (paths : List (List ℕ)) (c : Cell) (ranks : List Rank) (whole rs : List Recipe) (set : ClearedSet)
+    → set.cell ≡ c → set.recipes ≡ rs → AreRead gives cell certificate paths c ranks whole → AreTrimmedRecipes whole rs → IsClearedBy c rs ranks
+    → warns (warnings_text cell c paths whole)
+    → (set : ClearedSet) × (cleared : AreCleared gives cell certificate paths set) × warns (warnings_text cell set.cell paths cleared.recipes)
+verified gives warns cell certificate paths c ranks whole rs set same_cell same_recipes read trimmed cleared warned = (
   set,
-  record { ranks = ranks; read = rw (same_cell, same_recipes) read; cleared = rw (same_cell, same_recipes) cleared },
-  rw (same_cell, same_recipes) warned,
+  record { ranks = ranks; recipes = whole; read = rw same_cell read; trimmed = rw same_recipes trimmed; cleared = rw (same_cell, same_recipes) cleared },
+  rw same_cell warned,
 )

@@ -4,6 +4,7 @@ use Rattle.batch_cell.specs.declared.cell.Cell.{Cell}
 use Rattle.batch_recipe.specs.declared.recipe.Recipe.{Recipe}
 use Rattle.batch_reader.specs.CellDocument.{IsCellDocument}
 use Rattle.batch_reader.specs.RecipeDocument.{IsRecipeDocument}
+use Rattle.batch_outline.specs.Trimmed.{AreTrimmedRecipes}
 use Rattle.batch_verify.specs.CertificateText.{Rank}
 use Rattle.batch_verify.specs.ClearedSet.{ClearedSet}
 use Rattle.batch_journal.specs.Digests.{digits_of}
@@ -25,13 +26,15 @@ ReadsTexts gives (path ∷ paths) (text ∷ texts) (r ∷ rs) = ReadsRecipeText 
 ReadsTexts gives _ _ _ = ⊥
 
 -- the documents at these paths make this set, which their certificate clears, and these are the digits of the texts of its cell and
--- its recipes
+-- its recipes. Charts that no node follows are dropped
 pub record AreDigested (gives : Gives) (cell certificate : List ℕ) (paths : List (List ℕ)) (set : ClearedSet) (digits : List ℕ) : Type 0 where
   pub cell_text : List ℕ
   pub texts : List (List ℕ)
   pub ranks : List Rank
+  pub recipes : List Recipe
   pub cell_read : ReadsCellText gives cell cell_text set.cell
   pub certificate_read : ReadsCertificate gives certificate ranks
-  pub recipes_read : ReadsTexts gives paths texts set.recipes
+  pub recipes_read : ReadsTexts gives paths texts recipes
+  pub trimmed : AreTrimmedRecipes recipes set.recipes
   pub cleared : IsClearedBy set.cell set.recipes ranks
   pub names : digits ≡ digits_of (cell_text ∷ texts)

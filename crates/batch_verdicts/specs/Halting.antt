@@ -4,7 +4,7 @@ use Rattle.batch_cell.specs.declared.cell.Cell.{Cell}
 use Rattle.batch_recipe.specs.declared.recipe.Recipe.{Recipe}
 use Rattle.batch_verify.specs.CertificateText.{Rank}
 use Rattle.batch_verdicts.specs.Judging.{RefusesCell, RefusesCertificate, RefusesRecipe, RefusesSet}
-use Rattle.batch_verdicts.specs.Reading.{AreRead, Gives, IsUnread, ReadsCell, ReadsCertificate, ReadsRecipe, Warns}
+use Rattle.batch_verdicts.specs.Reading.{AreRead, Gives, IsSoTrimmed, IsUnread, ReadsCell, ReadsCertificate, ReadsRecipe, Warns}
 use Rattle.batch_verdicts.specs.WarningTexts.{warnings_text}
 use Rattle.batch_verdicts.specs.declared.refusal.Halt.{Halt}
 use Rattle.batch_verdicts.specs.declared.refusal.Halt.TheVariants.{Memory}
@@ -40,11 +40,12 @@ HaltsReading gives cell certificate recipes h =
 abbrev pub HaltsClearing : Gives → List ℕ → List ℕ → List (List ℕ) → Halt → Type 0
 HaltsClearing gives cell certificate paths h =
     HaltsReading gives cell certificate paths h
-    ⊎ ((c : Cell) × (ranks : List Rank) × (rs : List Recipe) × AreRead gives cell certificate paths c ranks rs × RefusesSet c rs ranks h)
+    ⊎ ((c : Cell) × (ranks : List Rank) × (rs : List Recipe) × AreRead gives cell certificate paths c ranks rs
+    × IsSoTrimmed (λ trimmed. RefusesSet c trimmed ranks h) rs)
 
 -- the same of `verify`, which warns of documents that are all read
 abbrev pub HaltsVerifying : Gives → Warns → List ℕ → List ℕ → List (List ℕ) → Halt → Type 0
 HaltsVerifying gives warns cell certificate paths h =
     (HaltsReading gives cell certificate paths h × warns [])
     ⊎ ((c : Cell) × (ranks : List Rank) × (rs : List Recipe) × AreRead gives cell certificate paths c ranks rs
-    × warns (warnings_text cell c paths rs) × RefusesSet c rs ranks h)
+    × warns (warnings_text cell c paths rs) × IsSoTrimmed (λ trimmed. RefusesSet c trimmed ranks h) rs)

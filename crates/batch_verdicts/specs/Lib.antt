@@ -4,6 +4,7 @@ pub mod Judging
 pub mod Bytes
 pub mod Reading
 pub mod Digested
+pub mod Gathering
 pub mod Taking
 pub mod Halting
 pub mod DeskSets

@@ -4,7 +4,9 @@ use Rattle.batch_cell.specs.declared.cell.Cell.{Cell}
 use Rattle.batch_recipe.specs.declared.recipe.Recipe.{Recipe}
 use Rattle.batch_reader.specs.CellDocument.{IsCellDocument}
 use Rattle.batch_reader.specs.RecipeDocument.{IsRecipeDocument}
+use Rattle.batch_model.specs.Setups.{setup_of}
 use Rattle.batch_outline.specs.Showing.{shown_recipes}
+use Rattle.batch_outline.specs.Trimmed.{AreTrimmedRecipes}
 use Rattle.batch_verify.specs.CertificateText.{Rank, IsCertificateText}
 use Rattle.batch_verify.specs.ClearedSet.{ClearedSet}
 use Rattle.batch_verdicts.specs.Drawing.{IsDrawn}
@@ -58,9 +60,13 @@ pub record AreReadWarned (gives : Gives) (warns : Warns) (cell : List ℕ) (path
   pub recipes_read : ReadsRecipes gives paths recipes
   pub warned : warns (warnings_text cell equipment paths recipes)
 
--- it is so of them, and the program warned of their parts that can hardly be meant so
+-- it is so of the recipes once the charts that no node follows are dropped
+abbrev pub IsSoTrimmed : (List Recipe → Type 0) → List Recipe → Type 0
+IsSoTrimmed is_so rs = (trimmed : List Recipe) × AreTrimmedRecipes rs trimmed × is_so trimmed
+
+-- the program warned of their parts that can hardly be meant so, and it is so of them without the charts that no node follows
 abbrev pub IsSoWarned : Gives → Warns → List ℕ → List (List ℕ) → (Cell → List Recipe → Type 0) → Type 0
-IsSoWarned gives warns cell paths is_so = IsSoOf gives cell paths (λ c rs. warns (warnings_text cell c paths rs) × is_so c rs)
+IsSoWarned gives warns cell paths is_so = IsSoOf gives cell paths (λ c rs. warns (warnings_text cell c paths rs) × IsSoTrimmed (is_so c) rs)
 
 -- the output of `check` on the documents at these paths
 abbrev pub ChecksDocuments : Gives → Warns → List ℕ → List (List ℕ) → List ℕ → Type 0
@@ -80,14 +86,20 @@ pub record AreRead (gives : Gives) (cell certificate : List ℕ) (paths : List (
   pub certificate_read : ReadsCertificate gives certificate ranks
   pub recipes_read : ReadsRecipes gives paths recipes
 
--- they make this set, which their certificate clears
+-- they make this set, which their certificate clears. Charts that no node follows are dropped
 pub record AreCleared (gives : Gives) (cell certificate : List ℕ) (paths : List (List ℕ)) (set : ClearedSet) : Type 0 where
   pub ranks : List Rank
-  pub read : AreRead gives cell certificate paths set.cell ranks set.recipes
+  pub recipes : List Recipe
+  pub read : AreRead gives cell certificate paths set.cell ranks recipes
+  pub trimmed : AreTrimmedRecipes recipes set.recipes
   pub cleared : IsClearedBy set.cell set.recipes ranks
 
 -- the output of `verify` on them: it accepts the set that they make, once it has warned of it
 abbrev pub VerifiesDocuments : Gives → Warns → List ℕ → List ℕ → List (List ℕ) → List ℕ → Type 0
 VerifiesDocuments gives warns cell certificate paths text =
     (text ≡ accepted_text)
-    × ((set : ClearedSet) × AreCleared gives cell certificate paths set × warns (warnings_text cell set.cell paths set.recipes))
+    × ((set : ClearedSet) × (cleared : AreCleared gives cell certificate paths set) × warns (warnings_text cell set.cell paths cleared.recipes))
+
+-- recipes make the same set for a cell without the charts that no node follows
+abbrev pub SetsStay : Type 0
+SetsStay = (c : Cell) (rs trimmed : List Recipe) → AreTrimmedRecipes rs trimmed → setup_of c trimmed ≡ setup_of c rs

@@ -7,15 +7,14 @@ ghost use Rattle.batch_verdicts.specs.Reading.{AreCleared, IsUnread, ReadsCell, 
 ghost use Rattle.batch_verdicts.specs.Saying.{IsWarned};
 ghost use Rattle.batch_verdicts.specs.Taking.{AreTaken, ClearsBehind};
 
+use crate::gathering::{ReadRecipe, ReadRecipes, Wanted};
 use crate::judging::{clear_recipes, parse_cell, parse_certificate, parse_recipe};
 use crate::refusal::Halt;
-use crate::sources::Sources;
 use crate::taking::{NoTaker, TextTaker};
 use crate::warnings::warn;
 use batch_cell::Cell;
 use batch_outline::show_recipes;
 use batch_reader::MAX_DOCUMENT_LEN;
-use batch_recipe::Recipe;
 use batch_verify::{Certificate, Cleared, MAX_CERTIFICATE_LEN};
 use std::alloc::Global;
 use std::io::Write;
@@ -35,30 +34,23 @@ pub trait Documents {
 #[derive(Drop)]
 pub(crate) struct CellDocuments {
     pub(crate) cell: Cell,
-    pub(crate) recipes: Vec<Recipe>,
-    /// The files and lines of the acts of the recipes.
-    pub(crate) sources: Sources,
+    pub(crate) recipes: ReadRecipes,
 }
 
-/// Reads the documents. The first that can't be read or is refused ends it. It keeps the sources of the recipes if they are wanted.
+/// Reads the documents. The first that can't be read or is refused ends it. It keeps the sentences that are wanted.
 pub(crate) fn read_each<D: Documents>(
     alloc: Global,
     documents: &D,
     cell: &str,
     recipes: &[String],
-    are_sources_wanted: bool,
+    wanted: Wanted,
 ) -> Result<CellDocuments, Halt>
-    ensures read { IfOk result (λ read. AreAllRead (D.gives documents.now) cell.now (map string_bytes recipes.now) read.cell read.recipes.items) }
+    ensures read { IfOk result (λ read. AreAllRead (D.gives documents.now) cell.now (map string_bytes recipes.now) read.cell read.recipes) }
     ensures halted { IfErr result (HaltsAtDocuments (D.gives documents.now) cell.now (map string_bytes recipes.now)) }
 {
     let cell = read_cell(alloc, documents, cell, &mut NoTaker)?;
-    let mut sources = Sources::new(alloc, are_sources_wanted);
-    let recipes = read_recipes(alloc, documents, recipes, &mut sources, &mut NoTaker)?;
-    Ok(CellDocuments {
-        cell,
-        recipes,
-        sources,
-    })
+    let recipes = read_recipes(alloc, documents, recipes, wanted, &mut NoTaker)?;
+    Ok(CellDocuments { cell, recipes })
 }
 
 /// The output of `verify` on the documents at these paths: it accepts the set that [`clear_documents`] gives, and its errors
@@ -82,10 +74,9 @@ pub fn verify_documents<D: Documents, E: Write>(
     let (path, paths) = (cell, recipes);
     let cell = read_cell(alloc, documents, path, &mut NoTaker)?;
     let certificate = read_certificate(alloc, documents, certificate)?;
-    let mut sources = Sources::new(alloc, !quiet);
-    let recipes = read_recipes(alloc, documents, paths, &mut sources, &mut NoTaker)?;
-    warn(alloc, quiet, path, &cell, paths, &recipes, errors);
-    clear_recipes(alloc, cell, recipes, sources.kept(), &certificate)?;
+    let read = read_recipes(alloc, documents, paths, Wanted::unless(quiet), &mut NoTaker)?;
+    warn(alloc, quiet, path, &cell, &read.lines, errors);
+    clear_recipes(alloc, cell, read.recipes, read.sources.kept(), &certificate)?;
     Ok(String::from_str(alloc, "accepted\n")?)
 }
 
@@ -101,8 +92,8 @@ pub fn show_documents<D: Documents>(
     ensures verdict { IfOk result (λ text. ShowsDocuments (D.gives documents.now) cell.now (map string_bytes recipes.now) (string_bytes text)) }
     ensures halted { IfErr result (HaltsAtDocuments (D.gives documents.now) cell.now (map string_bytes recipes.now)) }
 {
-    let read = read_each(alloc, documents, cell, recipes, false)?;
-    Ok(show_recipes(alloc, &read.recipes)?)
+    let read = read_each(alloc, documents, cell, recipes, Wanted::Nothing)?;
+    Ok(show_recipes(alloc, &read.recipes.recipes)?)
 }
 
 /// The set that the documents at these paths make, cleared by the certificate among them: the one way from documents to a set
@@ -140,9 +131,8 @@ pub(crate) fn clear_behind<D: Documents, T: TextTaker>(
         → HaltsClearing (D.gives documents.now) path certificate.now (map string_bytes recipes.now) halt) }
 {
     let certificate = read_certificate(alloc, documents, certificate)?;
-    let mut sources = Sources::new(alloc, true);
-    let recipes = read_recipes(alloc, documents, recipes, &mut sources, taker)?;
-    clear_recipes(alloc, cell, recipes, sources.kept(), &certificate)
+    let read = read_recipes(alloc, documents, recipes, Wanted::Refusals, taker)?;
+    clear_recipes(alloc, cell, read.recipes, read.sources.kept(), &certificate)
 }
 
 /// The cell of the document at the path, whose text the taker takes.
@@ -174,39 +164,39 @@ pub(crate) fn read_certificate<D: Documents>(
     parse_certificate(alloc, path, &text)
 }
 
-/// The recipe of the document at the path. Appends its source to those of the recipes before it; the taker takes its text.
+/// The recipe of the document at the path, whose text the taker takes.
 pub(crate) fn read_recipe<D: Documents, T: TextTaker>(
     alloc: Global,
     documents: &D,
     path: &str,
-    sources: &mut Sources,
     taker: &mut T,
-) -> Result<Recipe, Halt>
-    ensures read { IfOk result (λ recipe. (text : List ℕ) × ReadsRecipeText (D.gives documents.now) path.now text recipe
-        × ((texts : List (List ℕ)) → T.has_taken taker.old texts → T.has_taken taker.new (texts ++ text ∷ []))) }
+) -> Result<ReadRecipe, Halt>
+    ensures read { IfOk result (λ read. ReadsRecipeText (D.gives documents.now) path.now read.text.items read.recipe) }
+    ensures taken { IfOk result (λ read. (texts : List (List ℕ)) → T.has_taken taker.old texts → T.has_taken taker.new (texts ++ read.text.items ∷ [])) }
     ensures halted { IfErr result (HaltsAtRecipe (D.gives documents.now) path.now) }
 {
-    let bytes = documents.read(alloc, path, MAX_DOCUMENT_LEN)?;
-    let recipe = parse_recipe(alloc, path, &bytes)?;
-    taker.take_text(&bytes);
-    sources.add(alloc, path, &bytes)?;
-    Ok(recipe)
+    let text = documents.read(alloc, path, MAX_DOCUMENT_LEN)?;
+    let recipe = parse_recipe(alloc, path, &text)?;
+    taker.take_text(&text);
+    Ok(ReadRecipe { text, recipe })
 }
 
+/// The recipes of the documents at these paths, with the sentences that are wanted.
 pub(crate) fn read_recipes<D: Documents, T: TextTaker>(
     alloc: Global,
     documents: &D,
     paths: &[String],
-    sources: &mut Sources,
+    wanted: Wanted,
     taker: &mut T,
-) -> Result<Vec<Recipe>, Halt>
-    ensures read { IfOk result (λ recipes. AreTaken T.has_taken (D.gives documents.now) (map string_bytes paths.now) recipes.items taker.old taker.new) }
+) -> Result<ReadRecipes, Halt>
+    ensures read { IfOk result (λ read. AreTaken T.has_taken (D.gives documents.now) (map string_bytes paths.now) read taker.old taker.new) }
     ensures halted { IfErr result (HaltsAtRecipes (D.gives documents.now) (map string_bytes paths.now)) }
 {
-    let mut recipes = Vec::new(alloc);
+    let mut read = ReadRecipes::new(alloc, wanted);
     for path in paths {
-        let recipe = read_recipe(alloc, documents, path.as_str(), sources, taker)?;
-        recipes.push(recipe)?;
+        let path = path.as_str();
+        let own = read_recipe(alloc, documents, path, taker)?;
+        read.add(alloc, path, own)?;
     }
-    Ok(recipes)
+    Ok(read)
 }

@@ -11,9 +11,9 @@ ghost use Rattle.batch_verdicts.specs.declared.refusal.Halt.TheVariants.{Memory}
 
 use crate::documents::{CellDocuments, Documents, read_cell, read_each, read_recipe};
 use crate::drawing::draw_recipes;
+use crate::gathering::{ReadRecipes, Wanted};
 use crate::judging::{check_recipes, fault_halt};
 use crate::refusal::{DocumentRefusal, Halt};
-use crate::sources::Sources;
 use crate::taking::NoTaker;
 use crate::texts::fault_text;
 use crate::warnings::warn;
@@ -47,7 +47,8 @@ pub fn check_asked<D: Documents, E: Write>(
         cell.now (map string_bytes recipes.now)) }
 {
     let read = read_asked(alloc, documents, all, cell, recipes, quiet, errors)?;
-    check_recipes(alloc, &read.cell, &read.recipes, read.sources.kept())
+    let recipes = &read.recipes;
+    check_recipes(alloc, &read.cell, &recipes.recipes, recipes.sources.kept())
 }
 
 /// The drawing that `check --dot` makes of the documents at these paths. It ends and warns as [`check_asked`] does, and draws a circle.
@@ -67,7 +68,8 @@ pub fn draw_asked<D: Documents, E: Write>(
         cell.now (map string_bytes recipes.now)) }
 {
     let read = read_asked(alloc, documents, all, cell, recipes, quiet, errors)?;
-    draw_recipes(alloc, &read.cell, &read.recipes, read.sources.kept())
+    let recipes = &read.recipes;
+    draw_recipes(alloc, &read.cell, &recipes.recipes, recipes.sources.kept())
 }
 
 /// Reads the documents, and warns of them. With `all` it reads all of them, and searches for rules that the recipes break.
@@ -81,45 +83,43 @@ fn read_asked<D: Documents, E: Write>(
     errors: &mut E,
 ) -> Result<CellDocuments, Halt>
     ensures read { IfOk result (λ read. IsReadAsked all (D.gives documents.now) (IsWarned quiet (E.contents errors.old) (E.contents errors.new))
-        cell.now (map string_bytes recipes.now) read.cell read.recipes.items) }
+        cell.now (map string_bytes recipes.now) read.cell read.recipes.recipes.items) }
     ensures halted { IfErr result (HaltsBefore all (D.gives documents.now) (IsWarned quiet (E.contents errors.old) (E.contents errors.new))
         cell.now (map string_bytes recipes.now)) }
 {
+    let wanted = Wanted::unless(quiet);
     let read = if all {
-        read_all(alloc, documents, cell, recipes, !quiet)?
+        read_all(alloc, documents, cell, recipes, wanted)?
     } else {
-        read_each(alloc, documents, cell, recipes, !quiet)?
+        read_each(alloc, documents, cell, recipes, wanted)?
     };
-    warn(
-        alloc,
-        quiet,
-        cell,
-        &read.cell,
-        recipes,
-        &read.recipes,
-        errors,
-    );
+    let gathered = &read.recipes;
+    warn(alloc, quiet, cell, &read.cell, &gathered.lines, errors);
     if all {
-        find_broken_rules(alloc, &read.cell, &read.recipes, read.sources.kept())?;
+        find_broken_rules(
+            alloc,
+            &read.cell,
+            &gathered.recipes,
+            gathered.sources.kept(),
+        )?;
     }
     Ok(read)
 }
 
-/// Reads all documents, and reports their refusals together. It keeps the sources of the recipes if they are wanted.
+/// Reads all documents, and reports their refusals together. It keeps the sentences that are wanted.
 fn read_all<D: Documents>(
     alloc: Global,
     documents: &D,
     cell: &str,
     recipes: &[String],
-    are_sources_wanted: bool,
+    wanted: Wanted,
 ) -> Result<CellDocuments, Halt>
-    ensures read { IfOk result (λ read. AreAllRead (D.gives documents.now) cell.now (map string_bytes recipes.now) read.cell read.recipes.items) }
+    ensures read { IfOk result (λ read. AreAllRead (D.gives documents.now) cell.now (map string_bytes recipes.now) read.cell read.recipes) }
     ensures halted { IfErr result (HaltsAtAll (D.gives documents.now) cell.now (map string_bytes recipes.now)) }
 {
     let mut refusals = Vec::new(alloc);
     let cell = cell_or_refusal(alloc, documents, cell, &mut refusals)?;
-    let sources = Sources::new(alloc, are_sources_wanted);
-    let looked = recipes_or_refusals(alloc, documents, recipes, sources, refusals)?;
+    let looked = recipes_or_refusals(alloc, documents, recipes, wanted, refusals)?;
     let Some(cell) = cell else {
         return Err(Halt::Every(looked.refusals));
     };
@@ -129,7 +129,6 @@ fn read_all<D: Documents>(
     Ok(CellDocuments {
         cell,
         recipes: looked.recipes,
-        sources: looked.sources,
     })
 }
 
@@ -158,27 +157,24 @@ fn cell_or_refusal<D: Documents>(
 /// The outcome of reading the documents of recipes.
 #[derive(Drop)]
 struct Looked {
-    recipes: Vec<Recipe>,
-    /// The files and lines of the acts of the recipes.
-    sources: Sources,
+    recipes: ReadRecipes,
     refusals: Vec<DocumentRefusal>,
 }
 
-/// The recipes of the documents at these paths that aren't refused. The refusals of the others are appended to those before.
+/// The recipes of the documents at these paths that aren't refused, with the sentences that are wanted. The refusals of the others are appended to those before.
 fn recipes_or_refusals<D: Documents>(
     alloc: Global,
     documents: &D,
     paths: &[String],
-    sources: Sources,
+    wanted: Wanted,
     refusals: Vec<DocumentRefusal>,
 ) -> Result<Looked, Halt>
-    ensures looked { IfOk result (λ looked. LooksOn (D.gives documents.now) (map string_bytes paths.now) refusals.items looked.recipes.items
+    ensures looked { IfOk result (λ looked. LooksOn (D.gives documents.now) (map string_bytes paths.now) refusals.items looked.recipes
         looked.refusals.items) }
     ensures halted { IfErr result (IsOneUnread (D.gives documents.now) (map string_bytes paths.now)) }
 {
     let mut looked = Looked {
-        recipes: Vec::new(alloc),
-        sources,
+        recipes: ReadRecipes::new(alloc, wanted),
         refusals,
     };
     for path in paths {
@@ -195,12 +191,12 @@ fn add_recipe<D: Documents>(
     path: &str,
     looked: &mut Looked,
 ) -> Result<(), Halt>
-    ensures looked { OnOk result (IsLooked (D.gives documents.now) path.now looked.old.recipes.items looked.old.refusals.items
-        looked.new.recipes.items looked.new.refusals.items) }
+    ensures looked { OnOk result (IsLooked (D.gives documents.now) path.now looked.old.recipes looked.old.refusals.items
+        looked.new.recipes looked.new.refusals.items) }
     ensures halted { IfErr result (IsUnread (D.gives documents.now) path.now) }
 {
-    match read_recipe(alloc, documents, path, &mut looked.sources, &mut NoTaker) {
-        Ok(recipe) => looked.recipes.push(recipe)?,
+    match read_recipe(alloc, documents, path, &mut NoTaker) {
+        Ok(read) => looked.recipes.add(alloc, path, read)?,
         Err(Halt::Refused(refusal)) => looked.refusals.push(refusal)?,
         Err(Halt::Unread(text)) => return Err(Halt::Unread(text)),
         Err(_) => return Err(Halt::Memory),

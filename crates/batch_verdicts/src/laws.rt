@@ -1,4 +1,5 @@
 //! Laws over runs of the program.
+ghost use Rattle.batch_verdicts.specs.Reading.{SetsStay};
 ghost use Rattle.batch_verdicts.specs.Statuses.{NoCommandServes, ServesClearedSets, SuccessIsTold};
 
 use crate::documents::Documents;
@@ -15,3 +16,9 @@ pub fn statuses_tell<D: Documents>(documents: &D)
 {
     let _documents = documents;
 }
+
+/// Recipes make the same set for a cell without the charts that no node follows.
+pub fn sets_stay()
+    // claim: charts dropped
+    ensures { SetsStay }
+{}

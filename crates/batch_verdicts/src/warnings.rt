@@ -1,8 +1,9 @@
 //! Warnings on documents that are accepted.
-ghost use Rattle.std.specs.Prelude.{◌≡◌, IfOk, map, string_bytes};
+ghost use Rattle.std.specs.Prelude.{ℕ, ◌≡◌, ◌++◌, [], IfOk, List, string_bytes};
+ghost use Rattle.batch_verdicts.specs.Gathering.{AddsLines, HoldsLines};
 ghost use Rattle.batch_verdicts.specs.Saying.{IsWarned};
-ghost use Rattle.batch_verdicts.specs.WarningTexts.{lines_on, recipe_warnings_text, recipes_text, units_text, warnings_text};
-ghost use Rattle.batch_messages.specs.WarningWords.{said_at};
+ghost use Rattle.batch_verdicts.specs.WarningTexts.{lines_on, recipe_warnings_text, units_text};
+ghost use Rattle.batch_warnings.specs.Warnings.{units_without_modules};
 
 use crate::saying::write_and_flush;
 use batch_cell::Cell;
@@ -12,26 +13,71 @@ use batch_warnings::{RecipeWarning, recipe_warnings, units_without_modules};
 use std::alloc::{AllocError, Global};
 use std::io::Write;
 
-/// Warns of the parts of the cell and of the recipes that can hardly be meant so, a line each, unless quiet is asked for. The paths
-/// are those of their documents. If there is no memory for the lines, or they can't be written, they are left out.
+/// The lines of warnings on recipes, as far as they are wanted and there is memory for them.
+#[derive(Drop)]
+pub(crate) struct WarningLines {
+    text: Option<String>,
+}
+
+impl WarningLines {
+    /// No line yet.
+    pub(crate) fn new(alloc: Global, are_wanted: bool) -> WarningLines
+        ensures { HoldsLines result [] }
+    {
+        let text = if are_wanted {
+            Some(String::new(alloc))
+        } else {
+            None
+        };
+        WarningLines { text }
+    }
+
+    /// Appends the lines on the recipe of the document at the path. If there is no memory for them, none are left.
+    pub(crate) fn add(&mut self, alloc: Global, path: &str, recipe: &Recipe)
+        ensures { AddsLines self.old self.new (lines_on path.now recipe.now) }
+    {
+        if let Some(text) = self.text.take() {
+            self.text = with_lines(alloc, text, path, recipe).ok();
+        }
+    }
+}
+
+/// The text with the lines on the recipe behind it.
+fn with_lines(
+    alloc: Global,
+    text: String,
+    path: &str,
+    recipe: &Recipe,
+) -> Result<String, AllocError>
+    ensures { IfOk result (λ lines. string_bytes lines ≡ string_bytes text ++ lines_on path.now recipe.now) }
+{
+    let mut text = text;
+    let lines = lines_on(alloc, path, recipe)?;
+    text.push_str(&lines)?;
+    Ok(text)
+}
+
+/// Warns of the parts of the cell and of the recipes that can hardly be meant so, a line each, unless quiet is asked for. The path
+/// is that of the cell's document. If there is no memory for the lines, or they can't be written, they are left out.
 // claim: warnings
 pub(crate) fn warn<E: Write>(
     alloc: Global,
     quiet: bool,
     path: &str,
     cell: &Cell,
-    paths: &[String],
-    recipes: &[Recipe],
+    lines: &WarningLines,
     errors: &mut E,
 )
-    ensures { IsWarned quiet (E.contents errors.old) (E.contents errors.new)
-        (warnings_text path.now cell.now (map string_bytes paths.now) recipes.now) }
+    ensures { (recipes : List ℕ) → HoldsLines lines.now recipes → IsWarned quiet (E.contents errors.old) (E.contents errors.new)
+        (units_text path.now cell.now (units_without_modules cell.now) ++ recipes) }
 {
     if quiet {
         return;
     }
-    if let Ok(text) = warnings_text(alloc, path, cell, paths, recipes) {
-        write_and_flush(errors, &text);
+    if let Some(recipes) = &lines.text {
+        if let Ok(text) = warnings_text(alloc, path, cell, recipes) {
+            write_and_flush(errors, &text);
+        }
     }
 }
 
@@ -39,15 +85,13 @@ fn warnings_text(
     alloc: Global,
     path: &str,
     cell: &Cell,
-    paths: &[String],
-    recipes: &[Recipe],
+    recipes: &str,
 ) -> Result<String, AllocError>
-    ensures { IfOk result (λ text. string_bytes text ≡ warnings_text path.now cell.now (map string_bytes paths.now) recipes.now) }
+    ensures { IfOk result (λ text. string_bytes text ≡ units_text path.now cell.now (units_without_modules cell.now) ++ recipes.now) }
 {
     let units = units_without_modules(alloc, cell)?;
     let of_cell = units_text(alloc, path, cell, &units)?;
-    let of_recipes = recipes_text(alloc, paths, recipes)?;
-    format!(in alloc; "{of_cell}{of_recipes}")
+    format!(in alloc; "{of_cell}{recipes}")
 }
 
 fn units_text(alloc: Global, path: &str, cell: &Cell, units: &[usize]) -> Result<String, AllocError>
@@ -59,33 +103,6 @@ fn units_text(alloc: Global, path: &str, cell: &Cell, units: &[usize]) -> Result
         writeln!(text, "batchd: {}", sentence.text)?;
     }
     Ok(text)
-}
-
-fn recipes_text(alloc: Global, paths: &[String], recipes: &[Recipe]) -> Result<String, AllocError>
-    ensures { IfOk result (λ text. string_bytes text ≡ recipes_text (map string_bytes paths.now) recipes.now) }
-{
-    let mut text = String::new(alloc);
-    for (number, path) in paths.iter().enumerate() {
-        let lines = lines_at(alloc, path.as_str(), recipes, number)?;
-        text.push_str(&lines)?;
-    }
-    Ok(text)
-}
-
-/// The lines on the recipe with this number, of the document at this path.
-#[tactic(auto, using(crate::proofs::WarningLines::found, crate::proofs::WarningLines::past))]
-fn lines_at(
-    alloc: Global,
-    path: &str,
-    recipes: &[Recipe],
-    number: usize,
-) -> Result<String, AllocError>
-    ensures { IfOk result (λ text. string_bytes text ≡ said_at (lines_on path.now) recipes.now number) }
-{
-    match recipes.get(number) {
-        Some(recipe) => lines_on(alloc, path, recipe),
-        None => Ok(String::new(alloc)),
-    }
 }
 
 fn lines_on(alloc: Global, path: &str, recipe: &Recipe) -> Result<String, AllocError>

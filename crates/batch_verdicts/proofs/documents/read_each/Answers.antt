@@ -7,7 +7,12 @@ pub returns-clause-read : goal.returns-clause-read
 returns-clause-read g c =
     let cell = c.in_ok-cell.ensures.read in
     let recipes = c.in_ok-recipes.ensures.read in
-    ((cell.0, cell.1.0, cell.1.1), reads_recipes (g.D.Documents.gives c.args.documents.now) _ recipes.read c.in_ok-recipes.recipes.items recipes.texts)
+    record {
+      whole = recipes.whole;
+      cell_read = (cell.0, cell.1.0, cell.1.1);
+      recipes_read = reads_recipes (g.D.Documents.gives c.args.documents.now) _ recipes.texts recipes.whole recipes.read;
+      holds = recipes.holds;
+    }
 
 pub returns-in_err-recipes-clause-halted : goal.returns-in_err-recipes-clause-halted
 returns-in_err-recipes-clause-halted g c =

@@ -15,15 +15,15 @@ returns-in_err-certificate-clause-halted g c =
     let cell = c.in_ok-cell.ensures.read in
     rw (p.1, p.2) (inl (inr (c.in_ok-cell.cell, (cell.0, cell.1.0, cell.1.1), inl c.in_err-certificate.ensures.halted), silent _ _))
 
-pub returns-in_err-recipes-clause-halted : goal.returns-in_err-recipes-clause-halted
-returns-in_err-recipes-clause-halted g c =
-    let p = err_from_is_err_and c.from_residual-in_err-recipes.result c.from_residual-in_err-recipes.ensures.1 in
+pub returns-in_err-read-clause-halted : goal.returns-in_err-read-clause-halted
+returns-in_err-read-clause-halted g c =
+    let p = err_from_is_err_and c.from_residual-in_err-read.result c.from_residual-in_err-read.ensures.1 in
     let cell = c.in_ok-cell.ensures.read in
     rw (p.1, p.2) (inl (
       inr (
         c.in_ok-cell.cell,
         (cell.0, cell.1.0, cell.1.1),
-        inr (c.in_ok-certificate.certificate.ranks.items, c.in_ok-certificate.ensures.read, c.in_err-recipes.ensures.halted),
+        inr (c.in_ok-certificate.certificate.ranks.items, c.in_ok-certificate.ensures.read, c.in_err-read.ensures.halted),
       ),
       silent _ _,
     ))
@@ -33,14 +33,14 @@ returns-in_err-clear_recipes-clause-halted g c =
     let p = err_from_is_err_and c.from_residual-in_err-clear_recipes.result c.from_residual-in_err-clear_recipes.ensures.1 in
     let cell = c.in_ok-cell in
     let certificate = c.in_ok-certificate in
-    let recipes = c.in_ok-recipes in
+    let read = c.in_ok-read in
     rw (p.1, p.2) (inr (
       cell.cell,
       certificate.certificate.ranks.items,
-      recipes.recipes.items,
-      are_read (g.D.Documents.gives c.args.documents.now) _ _ _ _ _ _ cell.ensures.read.0 _ cell.ensures.read.1 certificate.ensures.read recipes.ensures.read.texts,
-      rw c.deref.ensures.value at c.warn.ensures,
-      c.in_err-clear_recipes.ensures.refused,
+      read.ensures.read.whole,
+      are_read (g.D.Documents.gives c.args.documents.now) _ _ _ _ _ _ cell.ensures.read.0 _ cell.ensures.read.1 certificate.ensures.read read.ensures.read.read,
+      c.warn.ensures _ read.ensures.read.holds.lines,
+      (read.read.recipes.items, read.ensures.read.holds.trimmed, c.in_err-clear_recipes.ensures.refused),
     ))
 
 pub returns-in_err-from_str-clause-halted : goal.returns-in_err-from_str-clause-halted
@@ -48,28 +48,28 @@ returns-in_err-from_str-clause-halted g c =
     let p = err_from_is_err_and c.from_residual-in_err-from_str.result c.from_residual-in_err-from_str.ensures.1 in
     let cell = c.in_ok-cell in
     let certificate = c.in_ok-certificate in
-    let recipes = c.in_ok-recipes in
+    let read = c.in_ok-read in
     rw (p.1, p.2) (inr (
       cell.cell,
       certificate.certificate.ranks.items,
-      recipes.recipes.items,
-      are_read (g.D.Documents.gives c.args.documents.now) _ _ _ _ _ _ cell.ensures.read.0 _ cell.ensures.read.1 certificate.ensures.read recipes.ensures.read.texts,
-      rw c.deref.ensures.value at c.warn.ensures,
-      (Memory, tt, tt),
+      read.ensures.read.whole,
+      are_read (g.D.Documents.gives c.args.documents.now) _ _ _ _ _ _ cell.ensures.read.0 _ cell.ensures.read.1 certificate.ensures.read read.ensures.read.read,
+      c.warn.ensures _ read.ensures.read.holds.lines,
+      (read.read.recipes.items, read.ensures.read.holds.trimmed, (Memory, tt, tt)),
     ))
 
 pub returns-clause-verdict : goal.returns-clause-verdict
 returns-clause-verdict g c =
     let cell = c.in_ok-cell in
     let certificate = c.in_ok-certificate in
-    let recipes = c.in_ok-recipes in
+    let read = c.in_ok-read in
     let cleared = c.in_ok-clear_recipes in
     let gives = g.D.Documents.gives c.args.documents.now in
     let warns : Warns = IsWarned c.args.quiet (g.E.Write.contents c.args.errors.now) (g.E.Write.contents c.warn.new.errors) in
     let paths = map string_bytes c.args.recipes.now in (
       c.in_ok-from_str.ensures.ok,
-      verified gives warns c.args.cell.now c.args.certificate.now paths cell.cell certificate.certificate.ranks.items recipes.recipes.items cleared.field-0
+      verified gives warns c.args.cell.now c.args.certificate.now paths cell.cell certificate.certificate.ranks.items read.ensures.read.whole read.read.recipes.items cleared.field-0
           cleared.ensures.set.0 cleared.ensures.set.1
-          (are_read gives _ _ _ _ _ _ cell.ensures.read.0 _ cell.ensures.read.1 certificate.ensures.read recipes.ensures.read.texts) cleared.ensures.cleared
-          (rw c.deref.ensures.value at c.warn.ensures),
+          (are_read gives _ _ _ _ _ _ cell.ensures.read.0 _ cell.ensures.read.1 certificate.ensures.read read.ensures.read.read) read.ensures.read.holds.trimmed
+          cleared.ensures.cleared (c.warn.ensures _ read.ensures.read.holds.lines),
     )

@@ -9,13 +9,13 @@ returns-clause-verdict g c =
     let read = c.in_ok-read.read in
     IfOk-weaker c.check_recipes.result _ _
     (λ text judged. let So : List Recipe → Type 0 = λ rs. IsChecked read.cell rs (string_bytes text) in
-    so_of_asked c.args.all _ _ _ _ read.cell read.recipes.items _ c.in_ok-read.ensures.read (subst So c.deref.ensures.value judged))
+    so_of_asked c.args.all _ _ _ _ read.cell read.recipes.recipes.items _ c.in_ok-read.ensures.read (subst So c.deref.ensures.value judged))
     c.check_recipes.ensures.checked
 
 pub returns-clause-halted : goal.returns-clause-halted
 returns-clause-halted g c =
     let read = c.in_ok-read.read in
-    judged_asked c.args.all _ _ _ _ read.cell read.recipes.items (λ h c rs. RefusesCheck c rs h) c.check_recipes.result c.in_ok-read.ensures.read
+    judged_asked c.args.all _ _ _ _ read.cell read.recipes.recipes.items (λ h c rs. RefusesCheck c rs h) c.check_recipes.result c.in_ok-read.ensures.read
     (rw c.deref.ensures.value at c.check_recipes.ensures.refused)
 
 pub returns-in_err-read-clause-halted : goal.returns-in_err-read-clause-halted

@@ -12,7 +12,7 @@ returns-clause-read g c =
     let At : Option Cell → Type 0 = λ cell. IsCellLooked gives c.args.cell.now [] cell before in
     let cell = subst At c.in-Some.is (rw c.new-refusals.ensures.items at c.in_ok-cell.ensures.looked) in
     let none : length looked.refusals.items ≡ 0 = search rules in
-    read_whole gives c.args.cell.now (map string_bytes c.args.recipes.now) before c.in-Some.cell looked.recipes.items looked.refusals.items cell
+    read_whole gives c.args.cell.now (map string_bytes c.args.recipes.now) before c.in-Some.cell looked.recipes looked.refusals.items cell
     c.in_ok-looked.ensures.looked (nil_from_length looked.refusals.items none)
 
 pub returns-then-not-is_empty-clause-halted : goal.returns-then-not-is_empty-clause-halted
@@ -24,7 +24,7 @@ returns-then-not-is_empty-clause-halted g c =
     let cell = subst At c.in-Some.is (rw c.new-refusals.ensures.items at c.in_ok-cell.ensures.looked) in
     let some : 0 < length looked.refusals.items = search rules in
     inl (
-      all_refused gives c.args.cell.now (map string_bytes c.args.recipes.now) before c.in-Some.cell looked.recipes.items looked.refusals.items cell
+      all_refused gives c.args.cell.now (map string_bytes c.args.recipes.now) before c.in-Some.cell looked.recipes looked.refusals.items cell
           c.in_ok-looked.ensures.looked,
       λ none. omega (arith, ap length none, some),
     )
@@ -36,7 +36,7 @@ returns-in_default-clause-halted g c =
     let before = c.cell_or_refusal.new.refusals.items in
     let At : Option Cell → Type 0 = λ cell. IsCellLooked gives c.args.cell.now [] cell before in
     let cell = subst At c.in_default.is (rw c.new-refusals.ensures.items at c.in_ok-cell.ensures.looked) in
-    inl (cell_refused gives c.args.cell.now (map string_bytes c.args.recipes.now) before looked.recipes.items looked.refusals.items cell
+    inl (cell_refused gives c.args.cell.now (map string_bytes c.args.recipes.now) before looked.recipes looked.refusals.items cell
     c.in_ok-looked.ensures.looked)
 
 pub returns-in_err-cell-clause-halted : goal.returns-in_err-cell-clause-halted

@@ -18,26 +18,29 @@ pub returns-in_err-find_broken_rules-clause-halted : goal.returns-in_err-find_br
 returns-in_err-find_broken_rules-clause-halted g c =
     let p = err_from_is_err_and c.from_residual-in_err-find_broken_rules.result c.from_residual-in_err-find_broken_rules.ensures.1 in
     let read = c.if-all.read in
-    let both : AreAllRead (g.D.Documents.gives c.args.documents.now) c.args.cell.now (map string_bytes c.args.recipes.now) read.cell read.recipes.items =
+    let both : AreAllRead (g.D.Documents.gives c.args.documents.now) c.args.cell.now (map string_bytes c.args.recipes.now) read.cell read.recipes =
     elim c.if-all.branch [
       | then-all+in_ok-read w ↦ rw w.read-is w.in_ok-read.ensures.read
       | else-all+in_ok-read-2 w ↦ rw w.read-is w.in_ok-read-2.ensures.read
     ] in
-    let warned = rw c.deref.ensures.value at c.warn.ensures in
-    rw (p.1, p.2, c.if-all-2.true) (broken_at _ (IsWarned c.args.quiet (g.E.Write.contents c.args.errors.now) (g.E.Write.contents c.warn.new.errors)) _ _ read.cell read.recipes.items c.in_err-find_broken_rules.field-0.0
-    (record { cell_read = both.0; recipes_read = both.1; warned = warned }) (rw c.deref-then-all-2.ensures.value at c.in_err-find_broken_rules.ensures.broken))
+    let warned = c.warn.ensures _ both.holds.lines in
+    rw (p.1, p.2, c.if-all-2.true) (broken_at _ (IsWarned c.args.quiet (g.E.Write.contents c.args.errors.now) (g.E.Write.contents c.warn.new.errors)) _ _ read.cell both.whole read.recipes.recipes.items c.in_err-find_broken_rules.field-0.0
+    (record { cell_read = both.cell_read; recipes_read = both.recipes_read; warned = warned }) both.holds.trimmed (rw c.deref.ensures.value at c.in_err-find_broken_rules.ensures.broken))
 
 pub returns-clause-read : goal.returns-clause-read
 returns-clause-read g c =
     let read = c.if-all.read in
-    let both : AreAllRead (g.D.Documents.gives c.args.documents.now) c.args.cell.now (map string_bytes c.args.recipes.now) read.cell read.recipes.items =
+    let both : AreAllRead (g.D.Documents.gives c.args.documents.now) c.args.cell.now (map string_bytes c.args.recipes.now) read.cell read.recipes =
     elim c.if-all.branch [
       | then-all+in_ok-read w ↦ rw w.read-is w.in_ok-read.ensures.read
       | else-all+in_ok-read-2 w ↦ rw w.read-is w.in_ok-read-2.ensures.read
-    ] in (
-      record { cell_read = both.0; recipes_read = both.1; warned = rw c.deref.ensures.value at c.warn.ensures },
-      elim c.if-all-2.branch [
-        | then-all-2+in_ok-find_broken_rules w ↦ rw w.if-all-2.true (rw w.deref-then-all-2.ensures.value at w.in_ok-find_broken_rules.ensures.kept)
+    ] in
+    record {
+      whole = both.whole;
+      read = record { cell_read = both.cell_read; recipes_read = both.recipes_read; warned = c.warn.ensures _ both.holds.lines };
+      trimmed = both.holds.trimmed;
+      kept = elim c.if-all-2.branch [
+        | then-all-2+in_ok-find_broken_rules w ↦ rw w.if-all-2.true (rw w.deref.ensures.value at w.in_ok-find_broken_rules.ensures.kept)
         | else-all-2 w ↦ rw w.if-all-2.false tt
-      ],
-    )
+      ];
+    }
