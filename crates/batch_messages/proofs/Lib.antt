@@ -2,3 +2,5 @@ pub mod WordsByNumber
 pub mod ActsAtNodes
 mod CircleWords
 pub mod ExplanationCodes
+mod ShownLines
+mod TextGrowth

@@ -8,7 +8,7 @@ use Rattle.batch_recipe.specs.declared.recipe.Recipe.{Recipe}
 use Rattle.batch_check.specs.declared.edge.Edge.{Edge}
 use Rattle.batch_check.specs.declared.fault.CheckFault.{CheckFault}
 use Rattle.batch_check.specs.declared.fault.CheckFault.TheVariants.{Circle}
-use Rattle.batch_wording.specs.Shown.{shown}
+use Rattle.batch_messages.specs.Shown.{shown}
 
 abbrev pub resource_name : Cell → ℕ → List ℕ
 resource_name cell resource = unwrap_or (slice_get (resources_of cell) resource) []

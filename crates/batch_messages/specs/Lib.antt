@@ -1,3 +1,4 @@
 pub mod CircleSentence
 pub mod WarningWords
 pub mod Explaining
+pub mod Shown

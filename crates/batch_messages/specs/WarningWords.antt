@@ -10,7 +10,7 @@ use Rattle.batch_recipe.specs.declared.acts.LabelTable.TheVariants.{UnitProcedur
 use Rattle.batch_recipe.specs.declared.quantity.Quantity.{Quantity}
 use Rattle.batch_recipe.specs.declared.recipe.Recipe.{Recipe}
 use Rattle.batch_recipe.specs.declared.role.Role.{Role}
-use Rattle.batch_wording.specs.Shown.{shown}
+use Rattle.batch_messages.specs.Shown.{shown}
 use Rattle.batch_warnings.specs.Warnings.{quantities_in}
 use Rattle.batch_warnings.specs.declared.warning.QuantityTable.{QuantityTable}
 use Rattle.batch_warnings.specs.declared.warning.QuantityTable.TheVariants.{Inputs, Parameters}

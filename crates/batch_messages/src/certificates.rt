@@ -1,6 +1,6 @@
 //! The faults of a certificate, in words.
+use crate::sentence::Sentence;
 use batch_verify::{CertFault, MAX_CERTIFICATE_LEN, MAX_LINES, MAX_RANK};
-use batch_wording::Sentence;
 use std::alloc::{AllocError, Global};
 
 /// The meaning of the fault of the certificate at this path. If the text begins as a TOML document does, the sentence says that another

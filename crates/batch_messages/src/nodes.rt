@@ -1,4 +1,5 @@
 //! The rule that is broken at a node of a recipe, in words.
+use crate::near::meant_said;
 use crate::ranks::rank_said;
 use crate::roles::{class_of, unit_among, unit_of, unit_without};
 use crate::subject::Subject;
@@ -7,7 +8,6 @@ use batch_cell::Cell;
 use batch_recipe::{Act, Recipe, UnitChoice, Work, follows};
 use batch_text::Name;
 use batch_verify::{Broken, Rule};
-use batch_wording::meant_said;
 use std::alloc::{AllocError, Global};
 
 impl<'a> Subject<'a> {

@@ -4,6 +4,7 @@ ghost use Rattle.batch_messages.specs.CircleSentence.{IsCircleTold, IsEdgeTold, 
 
 use crate::circles::{advice_said, asker_said, holder_said};
 use crate::names::{act_name, recipe_name, resource_name};
+use crate::sentence::Sentence;
 use crate::set::Set;
 use crate::sources::{RecipeSource, origin_said};
 use crate::subject::Subject;
@@ -13,7 +14,6 @@ use batch_model::MAX_RECIPES;
 use batch_recipe::Recipe;
 use batch_text::Name;
 use batch_verify::{Broken, Certificate, SetRefusal};
-use batch_wording::Sentence;
 use std::alloc::{AllocError, Global};
 
 const NO_MEMORY: &str = "there is no memory to judge the recipes";

@@ -1,7 +1,8 @@
 //! The files and lines of the acts of recipes.
+use crate::header::header_in;
+use crate::showing::shown;
 use crate::ways::WayUp;
 use batch_recipe::{Kind, LabelTable, Recipe, act_at};
-use batch_wording::{header_in, shown};
 use std::alloc::{AllocError, Global};
 
 /// The document of a recipe: its path, and the lines in which the tables of its acts begin.

@@ -1,11 +1,11 @@
 //! The recipe that a sentence is on, and the names that may have been meant in it.
 use crate::names::resource_names;
+use crate::near::meant_or_known;
 use crate::roles::class_of;
 use batch_cell::Cell;
 use batch_recipe::Recipe;
 use batch_text::Name;
 use batch_verify::Certificate;
-use batch_wording::meant_or_known;
 use std::alloc::{AllocError, Global};
 
 /// A recipe over its cell, with the certificate if there is one, and the memory for the words on them.

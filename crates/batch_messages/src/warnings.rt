@@ -4,10 +4,10 @@ ghost use Rattle.batch_recipe.specs.Procedure.{table_at};
 ghost use Rattle.batch_warnings.specs.Warnings.{quantities_in};
 ghost use Rattle.batch_messages.specs.WarningWords.{kind_said, module_said, output_said, range_said, recipe_warning, role_said, said_at, scaled_said, unit_warning, unnamed_said, value_said, warning_said, warning_words};
 
+use crate::sentence::Sentence;
 use batch_cell::Cell;
 use batch_recipe::{Acts, LabelTable, Quantity, Recipe};
 use batch_warnings::{QuantityTable, RecipeWarning};
-use batch_wording::Sentence;
 use std::alloc::{AllocError, Global};
 
 /// The warning that no module belongs to the unit with this number. The path is that of the cell's document.

@@ -20,7 +20,7 @@ use Rattle.batch_journal.specs.declared.recovery.RecoveryFault.{RecoveryFault}
 use Rattle.batch_journal.specs.declared.recovery.RecoveryFault.TheVariants.{Disk, NoJournal, OtherDocuments, Damaged}
 use Rattle.batch_keep.specs.Blocks.{IsBlockOf}
 use Rattle.batch_keep.specs.Told.{IsNeverLost}
-use Rattle.batch_wording.specs.Shown.{shown}
+use Rattle.batch_messages.specs.Shown.{shown}
 use Rattle.batch_verdicts.specs.Running.{IsUnwritten, Stream, fault_status, memory_status, success_status}
 use Rattle.batch_program.specs.PlantRuns.{refused_status}
 use Rattle.batch_program.specs.RecordRuns.{IsUntold, output_of}

@@ -2,8 +2,8 @@
 ghost use Rattle.std.specs.Prelude.{◌≡◌, ◌⊎◌};
 ghost use Rattle.batch_verdicts.specs.Running.{fault_status, memory_status};
 
+use batch_messages::shown;
 use batch_verdicts::{FILE_FAULT, NO_MEMORY, OUT_OF_MEMORY, complain};
-use batch_wording::shown;
 use std::alloc::Global;
 use std::fmt::Display;
 use std::io;

@@ -5,8 +5,8 @@ ghost use Rattle.batch_program.specs.FileWriting.{IsWritten};
 
 use crate::record_audit::complain_unread;
 use crate::records::Records;
+use batch_messages::shown;
 use batch_verdicts::{FILE_FAULT, NO_MEMORY, OUT_OF_MEMORY, SUCCESS, complain};
-use batch_wording::shown;
 use std::alloc::Global;
 use std::io::Write;
 use thiserror::Error;

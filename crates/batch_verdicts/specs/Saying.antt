@@ -2,7 +2,7 @@
 use Rattle.std.specs.Prelude.{◌≡◌, ◌++◌, ℕ, Bool, true, false, List, Option, codes, string_bytes}
 use Rattle.std.specs.Io.KnownBytes.{Appends, Keeps}
 use Rattle.std.specs.List.{flat_map}
-use Rattle.batch_wording.specs.declared.sentence.Sentence.{Sentence}
+use Rattle.batch_messages.specs.declared.sentence.Sentence.{Sentence}
 use Rattle.batch_verdicts.specs.declared.refusal.DocumentRefusal.{DocumentRefusal}
 
 -- the text in a line of its own, behind the program's name

@@ -12,7 +12,7 @@ use Rattle.batch_reader.specs.declared.fault.DocFault.{DocFault}
 use Rattle.batch_reader.specs.declared.fault.DocFault.TheVariants as document
 use Rattle.batch_reader.specs.declared.fault.EntryFault.{EntryFault}
 use Rattle.batch_reader.specs.declared.fault.EntryFault.TheVariants.{MissingKey, WrongKind, NoNeed, UnknownKey, Undeclared, Duplicate, OutOfLimit, NeedOutOfLimit, NumberOutOfLimit, Chart}
-use Rattle.batch_wording.specs.Shown.{shown}
+use Rattle.batch_messages.specs.Shown.{shown}
 use Rattle.batch_verify.specs.CertificateText.{Rank}
 use Rattle.batch_verify.specs.declared.certificate.CertFault.{CertFault}
 use Rattle.batch_verify.specs.declared.certificate.CertFault.TheVariants as certificate

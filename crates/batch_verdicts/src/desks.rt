@@ -10,8 +10,8 @@ use crate::documents::{Documents, clear_behind, read_cell};
 use crate::judging::document_halt;
 use crate::refusal::Halt;
 use batch_cell::Cell;
-use batch_document_sentences::Asked;
 use batch_journal::DocumentsDigest;
+use batch_messages::Asked;
 use batch_reader::{Desks, MAX_DOCUMENT_LEN, check_units, read_desks};
 use std::alloc::Global;
 

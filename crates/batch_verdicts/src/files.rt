@@ -5,7 +5,7 @@ ghost use Rattle.batch_verdicts.specs.Reading.{IsUnread};
 use crate::documents::Documents;
 use crate::reading::{ReadFault, read_document};
 use crate::refusal::Halt;
-use batch_wording::shown;
+use batch_messages::shown;
 use std::alloc::Global;
 use std::fs;
 use std::rt::Files;

@@ -12,15 +12,16 @@ use crate::texts::{
 };
 use batch_cell::Cell;
 use batch_check::{CheckFault, check};
-use batch_document_sentences::{Asked, document_sentence};
-use batch_messages::{RecipeSource, certificate_sentence, fault_sentence, refusal_sentence};
+use batch_messages::{
+    Asked, RecipeSource, Sentence, certificate_sentence, document_sentence, fault_sentence,
+    refusal_sentence,
+};
 use batch_reader::{DocFault, read_cell, read_recipe};
 use batch_recipe::Recipe;
 use batch_verify::{
     CertFault, Certificate, Cleared, MAX_CERTIFICATE_LEN, Rejected, SetRefusal, read_certificate,
     verify,
 };
-use batch_wording::Sentence;
 use std::alloc::{AllocError, Global};
 
 /// The cell of the document at the path. Only a refusal names the path.

@@ -3,7 +3,7 @@ ghost use Rattle.std.specs.Prelude.{◌≡◌};
 ghost use Rattle.batch_verdicts.specs.Judging.{is_for_memory, status_of};
 ghost use Rattle.batch_verdicts.specs.declared.refusal.Halt.TheVariants.{Memory};
 
-use batch_wording::Sentence;
+use batch_messages::Sentence;
 use std::alloc::{AllocError, AllocFailed};
 
 /// The kind of a refusal.

@@ -3,8 +3,8 @@ ghost use Rattle.std.specs.Prelude.{◌≡◌, ◌++◌, ◌∷◌, [], IfOk, co
 ghost use Rattle.batch_reader.specs.Words.{spot_text};
 ghost use Rattle.batch_verdicts.specs.VerdictTexts.{code_of, document_text, offset_words, refused};
 
+use batch_messages::shown;
 use batch_reader::{DocFault, EntryFault, Spot};
-use batch_wording::shown;
 use std::alloc::{AllocError, Global};
 
 /// The line that refuses the document at this path.

@@ -1,5 +1,5 @@
 //! The table of a document that has the fault.
-use crate::declared::{list_at, text_at};
+use crate::documents::declared::{list_at, text_at};
 use batch_reader::Spot;
 use std::alloc::Global;
 use toml::Table;

@@ -1,6 +1,6 @@
 //! Sentences.
 ghost use Rattle.std.specs.Prelude.{◌≡◌, ◌++◌, IfOk, codes, string_bytes};
-ghost use Rattle.batch_wording.specs.Shown.{IsOneLine, shown};
+ghost use Rattle.batch_messages.specs.Shown.{IsOneLine, shown};
 
 use crate::showing::shown;
 use std::alloc::{AllocError, Global};

@@ -1,7 +1,7 @@
 //! The names that a document declares.
-use crate::entry::Entry;
-use crate::hints::is_of_words;
-use crate::kinds::{VALUES, kinds_below};
+use crate::documents::entry::Entry;
+use crate::documents::hints::is_of_words;
+use crate::documents::kinds::{VALUES, kinds_below};
 use batch_reader::{Spot, TableKind, is_chart_word};
 use batch_text::is_name;
 use std::alloc::{AllocError, Global};

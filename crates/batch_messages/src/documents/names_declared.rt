@@ -1,12 +1,12 @@
 //! The faults in the names that a table declares or uses.
-use crate::declared::{first_named, listed_twice, names_of};
+use crate::documents::declared::{first_named, listed_twice, names_of};
+use crate::documents::entries::Wrong;
+use crate::documents::entry::Entry;
+use crate::documents::kinds::{OF_RECIPES, VALUES, kinds_below, namesakes_of};
+use crate::documents::lines::line_of;
 use crate::documents::table_said;
-use crate::entries::Wrong;
-use crate::entry::Entry;
-use crate::kinds::{OF_RECIPES, VALUES, kinds_below, namesakes_of};
-use crate::lines::line_of;
+use crate::near::meant_or_known;
 use batch_reader::TableKind;
-use batch_wording::meant_or_known;
 use std::alloc::AllocError;
 
 impl Entry<'_> {

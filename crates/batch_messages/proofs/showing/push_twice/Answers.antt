@@ -1,6 +1,6 @@
 use Rattle.std.proofs.Common.{◌++◌, ◌∷◌, [], encode_utf8, encode_utf8_all, string_bytes}
-use Rattle.batch_wording.proofs.TextGrowth.{grown_to, two_more}
-use Rattle.batch_wording.proofs.showing.push_twice.Goals as goal
+use Rattle.batch_messages.proofs.TextGrowth.{grown_to, two_more}
+use Rattle.batch_messages.proofs.showing.push_twice.Goals as goal
 
 pub returns : goal.returns
 returns c =

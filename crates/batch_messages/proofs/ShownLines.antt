@@ -1,7 +1,7 @@
 -- A shown text is one line.
 use Rattle.std.proofs.Common.{◌≡◌, ◌≢◌, ◌+◌, ◌<◌, ◌==◌, ◌/◌, ◌%◌, ℕ, Bool, true, false, List, [], ◌∷◌, ◌++◌, flat_map, chars, encode_utf8, encode_utf8_all, if◌then◌else◌, nat_lt, refl, sym, ◌∙◌, arith, append-nil, ap, ◌⊎◌, ◌≤◌, inl, inr, ne_eqb}
 use Rattle.std.proofs.lemmas.{Bool.Decides.nat_tests, List.Elements.All-append, List.Elements.All-from_get_or, Str.encodes-append, Str.inside_one}
-use Rattle.batch_wording.specs.Shown.{IsOneLine, escape, hex_digit, is_control, shown, shown_char}
+use Rattle.batch_messages.specs.Shown.{IsOneLine, escape, hex_digit, is_control, shown, shown_char}
 
 -- a character that is no line feed has no byte of a line feed
 char_is_one_line : (c : ℕ) → c ≢ 10 → IsOneLine (encode_utf8 c)

@@ -1,6 +1,6 @@
 //! The faults in the chart of a table.
-use crate::entry::Entry;
-use crate::lines::line_of;
+use crate::documents::entry::Entry;
+use crate::documents::lines::line_of;
 use batch_recipe::{MAX_TURNS, MAX_VALUE};
 use std::alloc::AllocError;
 

@@ -1,7 +1,7 @@
 use Rattle.std.proofs.Common.{sym, ◌∙◌, append_assoc, append-nil}
 use Rattle.std.proofs.{lemmas.Str.IsUtf8-past_char, lemmas.Str.chars_past_char, StrCases.chars_of_empty}
-use Rattle.batch_wording.proofs.ShownLines.{shown_step}
-use Rattle.batch_wording.proofs.showing.shown.Goals as goal
+use Rattle.batch_messages.proofs.ShownLines.{shown_step}
+use Rattle.batch_messages.proofs.showing.shown.Goals as goal
 
 pub loop-letter-preserved : goal.loop-letter-preserved
 loop-letter-preserved c =

@@ -1,6 +1,6 @@
 use Rattle.std.proofs.Common.{◌++◌, ◌/◌, ◌%◌, encode_utf8, encode_utf8_all, string_bytes}
-use Rattle.batch_wording.{specs.Shown.escape, specs.Shown.hex_digit, proofs.TextGrowth.four_more, proofs.TextGrowth.grown_to}
-use Rattle.batch_wording.proofs.showing.push_escape.Goals as goal
+use Rattle.batch_messages.{specs.Shown.escape, specs.Shown.hex_digit, proofs.TextGrowth.four_more, proofs.TextGrowth.grown_to}
+use Rattle.batch_messages.proofs.showing.push_escape.Goals as goal
 
 pub returns : goal.returns
 returns c =

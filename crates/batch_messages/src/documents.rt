@@ -1,9 +1,20 @@
 //! The faults of a document, in words.
-use crate::entries::wrong_at;
-use crate::kinds::{is_word_of_several, kind_said};
-use crate::lines::line_of;
+mod charts;
+mod declared;
+mod entries;
+mod entry;
+mod fits;
+mod hints;
+mod kinds;
+mod lines;
+mod names_declared;
+
+use crate::documents::entries::wrong_at;
+use crate::documents::kinds::{is_word_of_several, kind_said};
+use crate::documents::lines::line_of;
+use crate::header::header_in;
+use crate::sentence::Sentence;
 use batch_reader::{DocFault, EntryFault, MAX_DOCUMENT_LEN, Spot, TableKind};
-use batch_wording::{Sentence, header_in};
 use std::alloc::{AllocError, Global};
 use toml::Table;
 use toml::de::Error;

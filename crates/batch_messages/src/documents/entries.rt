@@ -1,10 +1,10 @@
 //! The faults of a document's table.
-use crate::entry::Entry;
-use crate::fits::{form_said, given_said};
-use crate::kinds::{kind_said, kinds_beside, word_of};
+use crate::documents::entry::Entry;
+use crate::documents::fits::{form_said, given_said};
+use crate::documents::kinds::{kind_said, kinds_beside, word_of};
+use crate::near::meant_said;
 use batch_reader::{EntryFault, Key, Spot, TableKind, ValueForm, is_chart_word, keys_of};
 use batch_recipe::{MAX_NEED_UNITS, MAX_NODES, MAX_VALUE};
-use batch_wording::meant_said;
 use std::alloc::{AllocError, Global};
 use toml::{Table, Value};
 

@@ -1,6 +1,6 @@
 use Rattle.std.proofs.Common.{◌≡◌, ◌++◌, ◌∙◌, OnOk, ap, sym, subst, encode_utf8, encode_utf8_all, string_bytes}
-use Rattle.batch_wording.{specs.Shown.shown_char, proofs.TextGrowth.grown_to, proofs.TextGrowth.one_more, proofs.ShownLines.shown_control, proofs.ShownLines.shown_plain}
-use Rattle.batch_wording.proofs.showing.push_shown.Goals as goal
+use Rattle.batch_messages.{specs.Shown.shown_char, proofs.TextGrowth.grown_to, proofs.TextGrowth.one_more, proofs.ShownLines.shown_control, proofs.ShownLines.shown_plain}
+use Rattle.batch_messages.proofs.showing.push_shown.Goals as goal
 
 pub returns-then-code-lt32 : goal.returns-then-code-lt32
 returns-then-code-lt32 c =

@@ -1,6 +1,6 @@
 //! Texts of a user, printed so that they make no line of their own.
 ghost use Rattle.std.specs.Prelude.{◌≡◌, ◌<◌, ◌++◌, ◌∷◌, [], IfOk, OnOk, encode_utf8_all, string_bytes};
-ghost use Rattle.batch_wording.specs.Shown.{escape, hex_digit, shown, shown_char};
+ghost use Rattle.batch_messages.specs.Shown.{escape, hex_digit, shown, shown_char};
 
 use std::alloc::{AllocError, Global};
 

@@ -1,8 +1,8 @@
 //! Lines of a document.
-use crate::entries::tables_of;
-use crate::kinds::word_of;
+use crate::documents::entries::tables_of;
+use crate::documents::kinds::word_of;
+use crate::header::header_in;
 use batch_reader::Spot;
-use batch_wording::header_in;
 use toml::Table;
 
 /// The line of the key in the table at the spot, counted from 1, or of the table's header if the key has none. An empty key has none.

@@ -1,7 +1,7 @@
 //! Hints for a text that is no chart.
-use crate::entry::Entry;
+use crate::documents::entry::Entry;
+use crate::near::meant_said;
 use batch_reader::TableKind;
-use batch_wording::meant_said;
 use std::alloc::{AllocError, Global};
 
 /// The words that may precede a bracket.

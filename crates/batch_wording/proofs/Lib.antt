@@ -1,2 +1,0 @@
-mod ShownLines
-mod TextGrowth
