@@ -1,4 +1,5 @@
 pub mod Trimmed
+pub mod RowsOfTrimmed
 pub mod Showing
 pub mod Along
 pub mod RowsOfShowing

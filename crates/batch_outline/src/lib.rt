@@ -8,6 +8,6 @@ mod showing;
 mod trimming;
 mod walk;
 
-pub use rows::shown_lines;
+pub use rows::{shown_lines, trimmed_acts};
 pub use showing::show_recipes;
 pub use trimming::drop_idle_charts;

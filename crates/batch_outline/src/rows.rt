@@ -1,5 +1,6 @@
-//! Lines of nodes, worked out. The function is empty: its contract is the lines.
+//! Lines of nodes, and charts that are dropped, worked out. The functions are empty: their contracts are the lines.
 ghost use Rattle.batch_outline.specs.RowsOfShowing.{BranchesOfSelection, FirstLine, HeldAbove, KindsBelow, LoopLine, OneUnit, OwnNeedIsNotHeld, ReservedUnitIsNotHeldAbove, ReservingAct, RoleTakesItself, TwoUnits};
+ghost use Rattle.batch_outline.specs.RowsOfTrimmed.{ActIsLeftOut, ChartOfNodeStays, FirstHasNode, NameStays, OtherChartMayBeDropped, OtherTableHasNone, SecondHasNone};
 
 pub fn shown_lines()
     ensures two_units { TwoUnits }
@@ -13,4 +14,14 @@ pub fn shown_lines()
     ensures reserving_act { ReservingAct }
     ensures kinds { KindsBelow }
     ensures roles { RoleTakesItself }
+{}
+
+pub fn trimmed_acts()
+    ensures first { FirstHasNode }
+    ensures second { SecondHasNone }
+    ensures other_table { OtherTableHasNone }
+    ensures of_node { ChartOfNodeStays }
+    ensures of_other { OtherChartMayBeDropped }
+    ensures name { NameStays }
+    ensures left_out { ActIsLeftOut }
 {}
