@@ -47,27 +47,6 @@ impl Spelling {
         }
     }
 
-    /// The spelling of the bytes, if they are few and all of them may stand in a name.
-    #[inline(always)]
-    pub(crate) fn read_short(text: &[u8]) -> Option<Spelling>
-        ensures letters { IfSome result (λ spelling. letters spelling ≡ text.now) }
-        ensures within_room { IfSome result (λ spelling. IsWithinRoom spelling) }
-        ensures spelled { IfSome result (λ spelling. list_all is_name_byte text.now ≡ true) }
-    {
-        if text.len() > MAX_SHORT_LEN {
-            return None;
-        }
-        let mut bytes = [0; MAX_SHORT_LEN];
-        for (i, byte) in text.iter().enumerate() {
-            if !is_name_byte(*byte) {
-                return None;
-            }
-            bytes[i] = *byte;
-        }
-        let len = text.len() as u8;
-        Some(Spelling::Short { len, bytes })
-    }
-
     /// The same spelling, with memory of its own if it is long.
     #[inline(always)]
     pub(crate) fn copied(&self, alloc: Global) -> Result<Spelling, AllocError>

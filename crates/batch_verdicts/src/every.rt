@@ -161,7 +161,8 @@ struct Looked {
     refusals: Vec<DocumentRefusal>,
 }
 
-/// The recipes of the documents at these paths that aren't refused, with the sentences that are wanted. The refusals of the others are appended to those before.
+/// The recipes of the documents at these paths that aren't refused, with the sentences that are wanted. The refusals of the others are
+/// appended to those before.
 fn recipes_or_refusals<D: Documents>(
     alloc: Global,
     documents: &D,

@@ -1,4 +1,4 @@
-//! A cache entry: the place of a recipe that was written last.
+//! A cache entry: the place that was written last for a batch.
 ghost use Rattle.std.specs.Prelude.{◌≡◌, ◌≤◌, ◌<◌, ◌++◌, ℕ, List, IfSome, IsTrue, Some, codes, decimal, drop, length, take};
 ghost use Rattle.batch_recipe.specs.Texts.{place_text};
 ghost use Rattle.batch_engine.specs.Names.{recipe_place_at};
